@@ -1,24 +1,20 @@
 -- The left end of a subdivided interval is its low bound, and a sphere's pole is on its axis: each but for a zero's sign. Assumes nothing.
-use mathlib.Core.Path.{_≡_, refl, sym, ap, _∙_, subst}
+use mathlib.Core.Path.{_≡_, sym, ap, _∙_, subst}
 use Prim.Native.Nat.{ℕ, zero, suc, _*_, _^_, _≤_, _<_}
-use native.Mathlib.Nat.{le-trans, zero-mul, mul-one, mul-pos, lt-irrefl}
+use native.Mathlib.Nat.{le-trans, zero-mul, mul-pos, lt-irrefl}
 use mathlib.Core.Bool.{Bool, true, false, not}
-use lib.IntN.{ℤ, pos, negsuc}
+use lib.IntN.{pos}
 use lib.Dec.{T, le→leb, lit≤}
-use lib.Ieee.{Float, nan, inf, fin, Format, binary64, prec, up, down, round, add, sub, mul, div, ofInt, inFloat, fits}
+use lib.Ieee.{Float, nan, inf, fin, Format, binary64, up, add, sub, mul, div, ofInt, inFloat, fits}
 use lib.Ieee.Fits.{down-pos}
 use lib.Ieee.Exact.{HasValue}
 use lib.Ieee.Back.{round-whole}
 use lib.Ieee.Scale.{finite}
+use Rattle.ieee.specs.Scaled.{value-finite}
 use Rattle.ieee.specs.Finite.{finite-add-r, finite-mul-l, finite-div-l}
 use Rattle.ieee.specs.Same.{isZero, Same, plusZero, mul-zero-l, mul-zero-r, div-zero-l, add-zero-same, round-zero}
 
 -- ---- a whole number as a float
-value-finite : (x : Float) (s : Bool) (a c : ℕ) → HasValue x s a c → T (finite x)
-value-finite nan s a c h = h
-value-finite (inf t) s a c h = h
-value-finite (fin t m e) s a c h = tt
-
 value-not-zero : (x : Float) (s : Bool) (a c : ℕ) → 0 < a → HasValue x s a c → T (not (isZero x))
 value-not-zero nan s a c p h = tt
 value-not-zero (inf t) s a c p h = tt
@@ -65,7 +61,7 @@ left-end-not-finite lo hi n h =
     flip true false f k = f tt
     flip false b f k = tt
 
--- ---- cx + (0.0 * cp) * r
+-- ---- a sphere's pole: cx + (0.0 * cp) * r
 pub pole : (f : Format) (cx cp r : Float) → T (fits f cx) → T (finite cp) → T (finite r) → Same (add f cx (mul f (mul f plusZero cp) r)) cx
 pole f cx cp r p t u = add-zero-same f cx (mul f (mul f plusZero cp) r) p (mul-zero-l f (mul f plusZero cp) r (mul-zero-l f plusZero cp tt t) u)
 
@@ -75,6 +71,9 @@ point lo hi n i = add binary64 lo (div binary64 (mul binary64 (sub binary64 hi l
 
 pub first-point : (lo hi : Float) (n : ℕ) → T (fits binary64 lo) → T (finite (sub binary64 hi lo)) → 1 ≤ n → n ≤ 1024 → Same (point lo hi n 0) lo
 first-point lo hi n p t a b = rw ofNat-zero (left-end lo hi n p t a b)
+
+pub first-point-not-finite : (lo hi : Float) (n : ℕ) → T (not (finite (sub binary64 hi lo))) → T (not (finite (point lo hi n 0)))
+first-point-not-finite lo hi n h = rw ofNat-zero (left-end-not-finite lo hi n h)
 
 -- what the cast of such a number asks
 pub ofNat-in : (n : ℕ) → n ≤ 1024 → T (inFloat binary64 (pos n))

@@ -1,29 +1,17 @@
--- What `min`, `max` and `abs` return, and what their code computes. Assumes nothing.
+-- What the code of `is_finite`, `min`, `max` and `abs` computes. Assumes nothing.
 use mathlib.Core.Path.{_≡_, refl, sym, ap, _∙_, subst}
-use Prim.Native.Nat.{ℕ, zero, suc, _+_, _-_, _*_, _≤_, _<_}
+use Prim.Native.Nat.{ℕ, zero, suc, _+_, _-_, _*_, _<_}
 use native.Mathlib.Nat.{lt-of-lt-of-le, le-add-right, zero-mul, sub-self, mul-pos, zero-lt-suc}
 use native.Mathlib.Omega.{arith}
-use mathlib.Core.Bool.{Bool, true, false, not, _&&_, Bool·beq, cond, true≢false, false≢true}
-use lib.IntN.{ℤ, pos}
+use mathlib.Core.Bool.{Bool, true, false, not, cond, true≢false, false≢true}
+use lib.IntN.{ℤ}
 use lib.Dec.{T, ltb, ltb→lt, lt→ltb}
-use lib.Ieee.{Float, nan, inf, fin, Format, binary64, up, down, lt, eq, isNan, neg, sum, add, sub, round, fits}
-use lib.Ieee.Fits.{up-pos, down-pos}
+use lib.Ieee.{Float, nan, inf, fin, Format, up, down, lt, eq, isNan, neg, sum, add, sub, round, fits}
+use lib.Ieee.Fits.{up-pos}
 use lib.Ieee.Scale.{finite}
 use Rattle.ieee.specs.Unique.{zero-exp}
+unfoldable pub use Rattle.ieee.specs.Number.{minimum, maximum, absolute}
 use Rattle.ieee.specs.Same.{plusZero, canon, plus-zero, eq-refl, finite-not-nan, T-true, true-T, round-zero-at}
-
--- the smaller; the first where neither is smaller; and where one is a NaN, the other
-unfoldable pub minimum : Float → Float → Float
-minimum a b = cond (isNan a) b (cond (lt b a) b a)
-
-unfoldable pub maximum : Float → Float → Float
-maximum a b = cond (isNan a) b (cond (lt a b) b a)
-
--- the sign cleared
-unfoldable pub absolute : Float → Float
-absolute nan = nan
-absolute (inf s) = inf false
-absolute (fin s m e) = fin false m e
 
 -- ---- is_finite
 cond-finite : (b : Bool) (x y : Float) → T (finite x) → T (finite y) → T (finite (cond b x y))

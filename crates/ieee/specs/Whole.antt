@@ -1,0 +1,42 @@
+-- The whole number nearest to a float, halves away from zero, and that number modulo 4: document 01's q and q mod 4.
+use Prim.Native.Nat.{ℕ, _+_, _-_, _*_, _/_, _%_}
+use mathlib.Core.Bool.{Bool, true, false}
+use lib.IntN.{ℤ, pos, negsuc, negℤ}
+use lib.Ieee.{Float, nan, inf, fin, binary64, up, down, ofInt}
+use Rattle.ieee.specs.declared.Whole.{Whole}
+
+-- the whole number nearest to a / b, a half going up: a / b + 1 / 2 without its fraction
+unfoldable pub halfUp : ℕ → ℕ → ℕ
+halfUp a b = (2 * a + b) / (2 * b)
+
+-- n, and -n where the sign is negative
+abbrev pub signed : Bool → ℕ → ℤ
+signed false n = pos n
+signed true n = negℤ (pos n)
+
+-- f64::abs then f64::round, as a whole number; 0 at a NaN and an infinity
+unfoldable pub nearestMagnitude : Float → ℕ
+unfolding halfUp
+nearestMagnitude nan = 0
+nearestMagnitude (inf s) = 0
+nearestMagnitude (fin s m e) = halfUp (m * up e) (down e)
+
+-- f64::round, as a whole number: `fin s m e` is ±(m * up e) / down e. 0 at a NaN and an infinity
+unfoldable pub nearestWhole : Float → ℤ
+unfolding halfUp
+nearestWhole nan = pos 0
+nearestWhole (inf s) = pos 0
+nearestWhole (fin s m e) = signed s (halfUp (m * up e) (down e))
+
+-- "q mod 4 is never negative": i64::rem_euclid(4)
+unfoldable pub mod4 : ℤ → ℕ
+mod4 (pos n) = n % 4
+mod4 (negsuc n) = 3 - n % 4
+
+-- What `nearest_whole` returns: the whole number as a float, and it modulo 4. A whole 0 is +0.0, also where f64::round gives -0.0.
+-- At a NaN and an infinity: the value itself, and 0.
+unfoldable pub wholeOf : Float → Whole
+unfolding nearestWhole mod4
+wholeOf nan = record { value = nan; quarter = 0 }
+wholeOf (inf s) = record { value = inf s; quarter = 0 }
+wholeOf (fin s m e) = record { value = ofInt binary64 (nearestWhole (fin s m e)); quarter = mod4 (nearestWhole (fin s m e)) }

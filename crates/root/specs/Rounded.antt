@@ -1,0 +1,58 @@
+-- What makes r the correctly rounded square root of x (IEEE 754, roundTiesToEven), said by comparing whole-number squares. Definitions only.
+-- The theorem `sqrt-rounded` of proofs/Rounded.antt shows it of `sqrt`.
+use Prim.Native.Nat.{ℕ, _+_, _*_, _<_}
+use mathlib.Core.Path.{_≡_}
+use mathlib.Core.Bool.{Bool, true, false}
+use lib.IntN.{pos}
+use lib.Dec.{T}
+use lib.Ieee.{Float, nan, inf, fin, Format, up, down, fits, lt, eq}
+
+-- A number that is not below zero, as num / den.
+pub record Fraction : Type 0 where
+  pub num : ℕ
+  pub den : ℕ
+
+-- The exact size of a finite value.
+abbrev pub sizeOf : Float → Fraction
+sizeOf (fin s m e) = record { num = m * up e; den = down e }
+sizeOf nan = record { num = 0; den = 1 }
+sizeOf (inf s) = record { num = 0; den = 1 }
+
+-- p is below q.
+abbrev pub Below : Fraction → Fraction → Type 0
+Below p q = p .num * q .den < q .num * p .den
+
+-- The square of the mean of p and q.
+abbrev pub squareOfMean : Fraction → Fraction → Fraction
+squareOfMean p q =
+    let n = p .num * q .den + q .num * p .den in
+    let d = 2 * (p .den * q .den) in
+    record { num = n * n; den = d * d }
+
+-- Finite and not below zero. Of the two zeros, which are one number, this takes the positive.
+abbrev pub notBelowZero : Float → Bool
+notBelowZero (fin false m e) = true
+notBelowZero (fin true m e) = false
+notBelowZero nan = false
+notBelowZero (inf s) = false
+
+abbrev pub plusZero : Float
+plusZero = fin false 0 (pos 0)
+
+-- r is the value of the format f that is nearest to the square root of x, which is finite and above zero.
+-- A value y above r is farther from the root exactly where the root is below the mean of r and y, and so where x is below the square of that mean. A value y below
+-- r is farther exactly where x is above that square. Both are strict, for every other y: there are no ties, and no second nearest value.
+-- A value below zero is farther than zero is, and r is not.
+pub record Nearest (f : Format) (x r : Float) : Type 0 where
+  pub held : T (fits f r)
+  pub finite : T (notBelowZero r)
+  pub than-above : (y : Float) → T (fits f y) → T (notBelowZero y) → Below (sizeOf r) (sizeOf y) → Below (sizeOf x) (squareOfMean (sizeOf r) (sizeOf y))
+  pub than-below : (y : Float) → T (fits f y) → T (notBelowZero y) → Below (sizeOf y) (sizeOf r) → Below (squareOfMean (sizeOf r) (sizeOf y)) (sizeOf x)
+
+-- r is IEEE 754's squareRoot of x in the format f. `negative` has minus infinity too, and `zero` says that minus zero gives minus zero.
+pub record CorrectlyRounded (f : Format) (x r : Float) : Type 0 where
+  pub zero : T (eq x plusZero) → r ≡ x
+  pub not-a-number : x ≡ nan → r ≡ nan
+  pub infinite : x ≡ inf false → r ≡ inf false
+  pub negative : T (lt x plusZero) → r ≡ nan
+  pub positive : T (lt plusZero x) → T (lt x (inf false)) → Nearest f x r

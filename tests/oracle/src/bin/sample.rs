@@ -1,0 +1,82 @@
+//! `sample SEED > cases`: a small case file with every shape, call and refusal, and the edges of the refusals on both sides.
+//! It is a choice among the runs that `generate` makes: a run is kept where it shows what was not yet shown often enough.
+use oracle::calls::Meshes;
+use oracle::case::*;
+use oracle::generate::runs;
+use std::collections::HashMap;
+use std::io::{self, BufWriter, Write};
+
+/// Runs looked at, and the most bytes of a run and its results.
+const LOOKED_AT: usize = 100_000;
+const MOST_BYTES: usize = 4_000;
+const MOST_BYTES_OF_A_LONG_LIST: usize = 26_000;
+
+fn main() -> io::Result<()> {
+    let seed = std::env::args().nth(1).and_then(|a| a.parse().ok()).unwrap_or(1);
+    let mut to = BufWriter::new(io::stdout().lock());
+    let mut shown: HashMap<String, usize> = HashMap::new();
+    let mut meshes = Meshes::default();
+    for run in runs(seed, "all").take(LOOKED_AT) {
+        let mut after = meshes.clone();
+        let (mut bytes, mut things) = (Vec::new(), Vec::new());
+        for case in &run {
+            let start = bytes.len();
+            after.run(case, &mut bytes)?;
+            things.extend(shows(case, &bytes[start..]));
+            case.write(&mut bytes)?;
+        }
+        let long = things.iter().any(|t| t.contains("list"));
+        let small = bytes.len() <= if long { MOST_BYTES_OF_A_LONG_LIST } else { MOST_BYTES };
+        if small && things.iter().any(|t| shown.get(t).is_none_or(|&n| n < often(t))) {
+            things.into_iter().for_each(|t| *shown.entry(t).or_default() += 1);
+            run.iter().try_for_each(|case| case.write(&mut to))?;
+            meshes = after;
+        }
+    }
+    to.flush()
+}
+
+/// How often a thing is to be shown: meshes with triangles several times.
+fn often(thing: &str) -> usize {
+    if thing.ends_with("with triangles") { 6 } else { 1 }
+}
+
+/// What a case shows: its call, shape and outcome, and the edges that it stands at with that outcome.
+fn shows(case: &Case, result: &[u8]) -> Vec<String> {
+    let refusal = result[0];
+    let shape = if case.what == TESSELLATE { case.shape } else { 0 };
+    let full = match case.what {
+        TESSELLATE => result[8..12] != [0; 4],
+        CLIP => result[4..8] != [0; 4],
+        _ => false,
+    };
+    let mut out = vec![format!("{} {shape} {refusal}{}", case.what, if full { " with triangles" } else { "" })];
+    let mut edge = |holds: bool, name: String| {
+        if holds {
+            out.push(format!("{} {refusal} {name}", case.what));
+        }
+    };
+    for count in [1024, 1025] {
+        edge(case.segments == count, format!("segments {count}"));
+        edge(case.sphere_rings == count, format!("rings {count}"));
+    }
+    edge(case.ops.len() >= 16, format!("operations {}", case.ops.len()));
+    edge(case.degrees == 1 && !case.ops.is_empty(), "degrees".into());
+    for op in &case.ops {
+        edge(refusal == 0, format!("kind {}", op.kind));
+    }
+    for angle in [1000f64, 1000f64.next_up()] {
+        let there = case.given().iter().chain(&case.list).chain(case.ops.iter().flat_map(|op| op.given()));
+        edge(there.into_iter().any(|x| x.abs() == angle), format!("angle {angle:?}"));
+    }
+    let (size, most) = if case.what == CLIP { (2, 512) } else { case.items().unwrap_or((1, usize::MAX - 1)) };
+    let used = case.what == CLIP || case.what == TESSELLATE;
+    for count in [most, most + 1] {
+        edge(used && case.list.len() / size == count, format!("list of {count}, shape {shape}"));
+    }
+    edge(!case.vertex_floats.is_multiple_of(3), "broken vertex place".into());
+    edge(!case.triangle_numbers.is_multiple_of(3), "broken triangle place".into());
+    let need = 2 * (case.vertex_floats / 3);
+    edge(case.what == TESSELLATE && need > 0 && case.work_numbers + 1 == need, "work one short".into());
+    out
+}
