@@ -23,6 +23,6 @@ pub extern "C" fn sizturga_sin(x: f64) -> f64
 pub extern "C" fn sizturga_cos(x: f64) -> f64
     ensures { λ r. ⌜ r ≡ sinCos x .cos ⌝ }
 {
-    let p = trig::sin_cos(x);
-    p.cos
+    let q = trig::sin_cos(x);
+    q.cos
 }

@@ -1,5 +1,7 @@
 -- `numbers::sizturga_cos` meets its contract, by that of `trig::sin_cos`. Assumes nothing.
+use mathlib.Core.Path.{ap}
 use borrow.Author.Needs.{needs}
+use Rattle.trig.specs.declared.SinCos.{SinCos}
 use Rattle.numbers.proofs.sizturga_cos.Statement.{statement}
 use Rattle.numbers.proofs.sizturga_cos.Tie as tie
 
@@ -7,7 +9,7 @@ sin-cos-requires : tie.Need-sin-cos-requires
 sin-cos-requires c κs = search needs
 
 returns : tie.Need-returns
-returns c = cc
+returns c = ap (λ (p : SinCos). p .cos) (c .sin-cos .ensures)
 
 pub sizturga-cos-spec : {M : Type 1} → statement M
 sizturga-cos-spec = tie.close (tie.spec sin-cos-requires returns)
