@@ -213,7 +213,7 @@ eq-iff-same f x y p q t = (
 )
 
 -- x + 0.0 of a finite x is finite
-canon-finite : (x : Float) → T (finite x) → T (finite (canon x))
+pub canon-finite : (x : Float) → T (finite x) → T (finite (canon x))
 canon-finite nan t = t
 canon-finite (inf s) t = t
 canon-finite (fin s zero e) t = tt

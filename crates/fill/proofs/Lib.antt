@@ -1,0 +1,2 @@
+-- Laws that the proofs of `fill` share.
+pub mod Clearing

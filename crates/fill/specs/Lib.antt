@@ -1,0 +1,2 @@
+-- What the contracts of `fill` cite.
+pub mod Cleared

@@ -1,0 +1,2 @@
+-- What the proofs of `math` share.
+pub mod Made

@@ -1,0 +1,13 @@
+-- `math::bbox::empty_box` meets its contract. Assumes nothing.
+use mathlib.Core.Path.{refl}
+use lib.Ieee.{ofBits, div, neg}
+use Rattle.math.specs.Box.{emptyBox}
+use Rattle.math.proofs.bbox.empty_box.Statement.{statement}
+use Rattle.math.proofs.bbox.empty_box.Tie as tie
+
+returns : tie.Need-returns
+unfolding emptyBox ofBits div neg
+returns c = refl
+
+pub empty-box-spec : {M : Type 1} → statement M
+empty-box-spec = tie.close (tie.spec returns)

@@ -1,0 +1,18 @@
+-- `math::bbox::include` meets its contract. Assumes nothing.
+use borrow.Author.Needs.{needs}
+use Rattle.math.specs.Box.{include}
+use Rattle.math.proofs.bbox.include.Statement.{statement}
+use Rattle.math.proofs.bbox.include.Tie as tie
+
+min-requires : tie.Need-min-requires
+min-requires c κs = search needs
+
+max-requires : tie.Need-max-requires
+max-requires c κs = search needs
+
+returns : tie.Need-returns
+unfolding include
+returns c = cc
+
+pub include-spec : {M : Type 1} → statement M
+include-spec = tie.close (tie.spec min-requires max-requires returns)

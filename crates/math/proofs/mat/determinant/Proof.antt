@@ -1,0 +1,26 @@
+-- `math::mat::determinant` meets its contract. Assumes nothing.
+use borrow.Author.Needs.{needs}
+use Rattle.math.specs.Mat.{determinant}
+use Rattle.math.proofs.mat.determinant.Statement.{statement}
+use Rattle.math.proofs.mat.determinant.Tie as tie
+
+row-of-requires : tie.Need-row-of-requires
+row-of-requires c κs = search needs
+
+row-of-requires-2 : tie.Need-row-of-requires-2
+row-of-requires-2 c κs = search needs
+
+row-of-requires-3 : tie.Need-row-of-requires-3
+row-of-requires-3 c κs = search needs
+
+det-rows-requires : tie.Need-det-rows-requires
+det-rows-requires c κs = search needs
+
+returns : tie.Need-returns
+unfolding determinant
+returns c = cc
+
+pub determinant-spec : {M : Type 1} → statement M
+determinant-spec =
+    tie.close
+    (tie.spec row-of-requires row-of-requires-2 row-of-requires-3 det-rows-requires returns)

@@ -1,0 +1,35 @@
+-- `math::mat::product_row` meets its contract. Assumes nothing.
+use borrow.Author.Needs.{needs}
+use Rattle.math.specs.Mat.{productRow}
+use Rattle.math.proofs.mat.product_row.Statement.{statement}
+use Rattle.math.proofs.mat.product_row.Tie as tie
+
+row-of-requires : tie.Need-row-of-requires
+row-of-requires c κs = search needs
+
+row-of-requires-2 : tie.Need-row-of-requires-2
+row-of-requires-2 c κs = search needs
+
+row-of-requires-3 : tie.Need-row-of-requires-3
+row-of-requires-3 c κs = search needs
+
+row-of-requires-4 : tie.Need-row-of-requires-4
+row-of-requires-4 c κs = search needs
+
+times-rows-requires : tie.Need-times-rows-requires
+times-rows-requires c κs = search needs
+
+returns : tie.Need-returns
+unfolding productRow
+returns c = cc
+
+pub product-row-spec : {M : Type 1} → statement M
+product-row-spec =
+    tie.close
+    (tie.spec
+    row-of-requires
+    row-of-requires-2
+    row-of-requires-3
+    row-of-requires-4
+    times-rows-requires
+    returns)

@@ -1,0 +1,21 @@
+-- `math::mat::rotation` meets its contract. Assumes nothing.
+use borrow.Author.Needs.{needs}
+use Rattle.math.specs.Mat.{rotation}
+use Rattle.math.proofs.mat.rotation.Statement.{statement}
+use Rattle.math.proofs.mat.rotation.Tie as tie
+
+sin-cos-requires : tie.Need-sin-cos-requires
+sin-cos-requires c κs = search needs
+
+normalized-requires : tie.Need-normalized-requires
+normalized-requires c κs = search needs
+
+turn-requires : tie.Need-turn-requires
+turn-requires c κs = search needs
+
+returns : tie.Need-returns
+unfolding rotation
+returns c = cc
+
+pub rotation-spec : {M : Type 1} → statement M
+rotation-spec = tie.close (tie.spec sin-cos-requires normalized-requires turn-requires returns)

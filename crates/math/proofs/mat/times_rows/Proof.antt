@@ -1,0 +1,13 @@
+-- `math::mat::times_rows` meets its contract. Assumes nothing.
+use mathlib.Core.Path.{refl}
+use lib.Ieee.{ofBits}
+use Rattle.math.specs.Mat.{timesRows}
+use Rattle.math.proofs.mat.times_rows.Statement.{statement}
+use Rattle.math.proofs.mat.times_rows.Tie as tie
+
+returns : tie.Need-returns
+unfolding timesRows ofBits
+returns c = refl
+
+pub times-rows-spec : {M : Type 1} → statement M
+times-rows-spec = tie.close (tie.spec returns)

@@ -1,0 +1,18 @@
+-- `math::vec::norm` meets its contract. Assumes nothing.
+use borrow.Author.Needs.{needs}
+use Rattle.math.specs.Vec.{norm}
+use Rattle.math.proofs.vec.norm.Statement.{statement}
+use Rattle.math.proofs.vec.norm.Tie as tie
+
+norm-sq-requires : tie.Need-norm-sq-requires
+norm-sq-requires c κs = search needs
+
+sqrt-requires : tie.Need-sqrt-requires
+sqrt-requires c κs = search needs
+
+returns : tie.Need-returns
+unfolding norm
+returns c = cc
+
+pub norm-spec : {M : Type 1} → statement M
+norm-spec = tie.close (tie.spec norm-sq-requires sqrt-requires returns)

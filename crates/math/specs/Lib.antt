@@ -1,0 +1,5 @@
+-- The definitions that the contracts of `math` cite, and laws of them.
+pub mod Vec
+pub mod Mat
+pub mod Box
+pub mod Laws

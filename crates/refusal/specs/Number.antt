@@ -1,0 +1,16 @@
+-- The numbers of document 01, "Who can be told no". Assumes nothing.
+use Prim.Native.Nat.{ℕ}
+use Rattle.refusal.specs.declared.Refusal.{Refusal}
+use Rattle.refusal.specs.declared.Refusal.the-variants.{Accepted, NotFinite, AngleTooLarge, TooManySegments, BadList, PointNotFinite, ShortWork, NoRoom, BadMesh}
+
+-- 1 to 5 are told to the drawing, 6 to 8 to the lending program; 0 is no refusal
+abbrev pub numberOf : Refusal → ℕ
+numberOf Accepted = 0
+numberOf NotFinite = 1
+numberOf AngleTooLarge = 2
+numberOf TooManySegments = 3
+numberOf BadList = 4
+numberOf PointNotFinite = 5
+numberOf ShortWork = 6
+numberOf NoRoom = 7
+numberOf BadMesh = 8

@@ -1,0 +1,2 @@
+-- What the proofs of `transform` share.
+pub mod Loops

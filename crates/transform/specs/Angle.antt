@@ -1,0 +1,23 @@
+-- Degrees and radians: document 01, "A degree figure becomes radians at one step only", and `ang` of `TransformOp::matrix` in src/transform.rs.
+use mathlib.Core.Bool.{Bool, cond}
+use lib.IntN.{pos}
+use lib.Ieee.{Float, binary64, mul, le, ofBits, ofInt}
+use Rattle.ieee.specs.MinMax.{absolute}
+use Rattle.transform.specs.declared.Degrees.{Degrees}
+use Rattle.transform.specs.declared.Radians.{Radians}
+
+-- the float PI / 180, by its bits
+unfoldable pub perDegree : Float
+perDegree = ofBits binary64 0x3F91DF46A2529D39
+
+-- `f64::to_radians`
+unfoldable pub toRadians : Degrees → Radians
+toRadians d = record { 0 = mul binary64 (d .0) perDegree }
+
+-- `ang` of `TransformOp::matrix`: an operation's angle, given in degrees or in radians
+unfoldable pub angleRadians : Bool → Float → Radians
+angleRadians degrees a = cond degrees (toRadians (record { 0 = a })) (record { 0 = a })
+
+-- document 01, refusal 2: the angle does not exceed 1000 in absolute value. A NaN is not within.
+unfoldable pub within1000 : Radians → Bool
+within1000 r = le (absolute (r .0)) (ofInt binary64 (pos 1000))

@@ -1,0 +1,5 @@
+-- The definitions that the contracts of `transform` cite, and figures of them.
+pub mod Angle
+pub mod Ops
+pub mod Checks
+pub mod Examples

@@ -1,0 +1,35 @@
+-- The matrix of one operation and of a list of them: `TransformOp::matrix` and `Transform::rebuild` of src/transform.rs.
+use mathlib.Core.Bool.{Bool}
+use mathlib.Core.List.{List, [], _∷_}
+use lib.Ieee.{Float}
+use Rattle.math.specs.declared.Vec3.{Vec3}
+use Rattle.math.specs.declared.Mat4.{Mat4}
+use Rattle.math.specs.Vec.{new, unit}
+use Rattle.math.specs.Mat.{identity, translation, scaling, rotation, fromRows, product}
+use Rattle.transform.specs.declared.TransformOp.{TransformOp}
+use Rattle.transform.specs.declared.TransformOp.the-variants.{Translate, RotateOrigin, RotateX, RotateY, RotateZ, Scale, Scale3, Matrix}
+use Rattle.transform.specs.Angle.{angleRadians}
+
+-- a rotation by the angle of an operation
+unfoldable pub turned : Bool → Vec3 → Float → Mat4
+turned degrees axis a = rotation axis (angleRadians degrees a .0)
+
+-- `TransformOp::matrix`
+unfoldable pub opMatrix : Bool → TransformOp → Mat4
+opMatrix degrees (Translate v) = translation v
+opMatrix degrees (RotateOrigin v a) = turned degrees v a
+opMatrix degrees (RotateX a) = turned degrees (unit 0) a
+opMatrix degrees (RotateY a) = turned degrees (unit 1) a
+opMatrix degrees (RotateZ a) = turned degrees (unit 2) a
+opMatrix degrees (Scale s) = scaling (new s s s)
+opMatrix degrees (Scale3 v) = scaling v
+opMatrix degrees (Matrix p q r s) = fromRows p q r s
+
+-- the fold of `Transform::rebuild`: the matrix of each operation, in order, multiplies what stands so far from the left
+unfoldable pub foldFrom : Bool → Mat4 → List TransformOp → Mat4
+foldFrom degrees acc [] = acc
+foldFrom degrees acc (op ∷ ops) = foldFrom degrees (product (opMatrix degrees op) acc) ops
+
+-- `Transform::rebuild`, the forward matrix
+unfoldable pub folded : Bool → List TransformOp → Mat4
+folded degrees ops = foldFrom degrees identity ops

@@ -1,0 +1,12 @@
+-- The Rust's TriMesh as definitions, and the theorems about it.
+pub mod Mesh
+pub mod Closed
+pub mod Slices
+pub mod Edits
+pub mod Measures
+pub mod SliceLaws
+pub mod WeldLaws
+pub mod SelfSame
+pub mod Welded
+pub mod ClosedLaws
+pub mod ProperLaws

@@ -1,0 +1,20 @@
+-- How a mesh lies in lent slices (document 01, "Recast for lent memory"): three floats a vertex. Triangles are `flat` and `tris` of balance's Buffer. Definitions only.
+use mathlib.Core.List.{List, [], _∷_, _++_}
+use lib.Ieee.{Float}
+use Rattle.math.specs.declared.Vec3.{Vec3}
+
+-- the three floats of a vertex
+abbrev pub coords : Vec3 → List Float
+coords p = p .x ∷ p .y ∷ p .z ∷ []
+
+-- the floats of the vertices, one vertex after the other
+abbrev pub flatV : List Vec3 → List Float
+flatV [] = []
+flatV (p ∷ ps) = coords p ++ flatV ps
+
+-- the vertices in a list of floats; a broken last one is none
+abbrev pub points : List Float → List Vec3
+points [] = []
+points (x ∷ []) = []
+points (x ∷ y ∷ []) = []
+points (x ∷ y ∷ z ∷ r) = record { x = x; y = y; z = z } ∷ points r

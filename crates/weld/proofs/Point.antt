@@ -1,0 +1,189 @@
+-- What welding one point does to the mesh that the slices hold. Assumes nothing.
+use mathlib.Core.Path.{_≡_, refl, sym, ap, _∙_, subst}
+use mathlib.Core.Bool.{true, false}
+use mathlib.Core.List.{List, [], _∷_, _++_, map, append-assoc}
+use mathlib.Core.Logic.{inl, inr}
+use Prim.Native.Nat.{ℕ, _+_, _-_, _*_, _≤_, _<_}
+use native.Mathlib.Omega.{arith}
+use lib.ListN.{length, getD, take, length-set, length-append, length-map}
+use lib.Seq.{getD-append-add}
+use lib.Ieee.{Float}
+use Rattle.math.specs.declared.Vec3.{Vec3}
+use Rattle.balance.specs.Soup.{Tri, mapTri}
+use Rattle.trimesh.specs.Mesh.{Mesh, samePoint, firstSight, append}
+use Rattle.trimesh.specs.Slices.{flatV}
+use Rattle.trimesh.specs.WeldLaws.{sight-at, sight-none, with-seen, with-new, with-longer, flatV-append}
+use Rattle.weld.specs.declared.chain.Found.{Found}
+use Rattle.weld.specs.declared.chain.Found.the-variants.{Missing}
+use Rattle.weld.specs.declared.Welder.{Welder}
+use Rattle.weld.specs.Points.{Clean, vertexAt, placed}
+use Rattle.weld.specs.Hash.{bucketOf, linkedIn, FirstAt, Sought}
+use Rattle.weld.specs.Rep.{Held, held, Linked, Holds, Over, Rep}
+use Rattle.weld.specs.Steps.{shut, withVertex, PointRuns}
+use Rattle.weld.proofs.Places.{take-three, take-vertex, flatV-at, places-limit, places-long}
+use Rattle.weld.proofs.Chains.{not-both, chain-more}
+
+-- ---- a look-up in the slice is a look-up in the part
+module _ (us ws : List Vec3) (vs : List Float) (count : ℕ) (front : flatV (us ++ ws) ≡ take (3 * count) vs) (long : length (us ++ ws) ≡ count) (p : Vec3) where
+  part-at : (k : ℕ) → k < length ws → vertexAt vs (length us + k) ≡ getD ws k p
+  part-at k l =
+      let n : length us + k < length (us ++ ws) = omega (arith, length-append us ws) in
+      sym (take-vertex vs count (length us + k) (omega arith))
+      ∙ ap (λ (r : List Float). vertexAt r (length us + k)) (sym front)
+      ∙ flatV-at (us ++ ws) (length us + k) p n
+      ∙ getD-append-add us ws k p
+
+  same-at : (k : ℕ) → k < length ws → samePoint (vertexAt vs (length us + k)) p ≡ samePoint (getD ws k p) p
+  same-at k l = ap (λ (v : Vec3). samePoint v p) (part-at k l)
+
+  part-first : (m : ℕ) → FirstAt vs (length us) count p m → m ≡ firstSight ws p + length us
+  part-first m F =
+      let k : ℕ = m - length us in
+      let e : m ≡ length us + k = omega (arith, F .low) in
+      let l : k < length ws = omega (arith, F .high, length-append us ws) in
+      let s : firstSight ws p ≡ k =
+      sight-at p p ws k l
+      (sym (same-at k l) ∙ ap (λ (n : ℕ). samePoint (vertexAt vs n) p) (sym e) ∙ F .equal)
+      (λ j r t. F .first (length us + j) (omega arith) (omega arith) (same-at j (omega arith) ∙ t)) in
+      omega arith
+
+  part-none : Sought vs (length us) count p Missing → firstSight ws p ≡ length ws
+  part-none f = sight-none p p ws (λ m l s. f (length us + m) (omega arith) (omega (arith, length-append us ws)) (same-at m l ∙ s))
+
+-- ---- meshes that grow
+pub over-grows : (D S S′ : Mesh) (h : Held) → length (S .vertices) ≤ length (S′ .vertices) → length (S .triangles) ≤ length (S′ .triangles) → Over (append D S) h → Over (append D S′) h
+unfolding append
+over-grows D S S′ h a b (inl w) = inl (omega (arith, length-append (D .vertices) (S .vertices), length-append (D .vertices) (S′ .vertices)))
+over-grows D S S′ h a b (inr w) =
+    let f : Tri ℕ → Tri ℕ = mapTri (λ (i : ℕ). i + length (D .vertices)) in
+    inr (omega (arith, length-append (D .triangles) (map f (S .triangles)), length-append (D .triangles) (map f (S′ .triangles)), length-map (S .triangles) f, length-map (S′ .triangles) f))
+
+-- after "no room" nothing is written, and the mesh still does not fit
+pub rep-shut : (D S S′ : Mesh) (h : Held) → h .st .room ≡ false → length (S .vertices) ≤ length (S′ .vertices) → length (S .triangles) ≤ length (S′ .triangles) → Rep D S h → Rep D S′ h
+rep-shut D S S′ h f a b R =
+    record {
+      base = R .base;
+      holds = λ e. absurd (not-both (h .st .room) e f);
+      over = λ e. over-grows D S S′ h a b (R .over e);
+    }
+
+-- the mesh with p as its last vertex
+abbrev more-vertex : Mesh → Vec3 → Mesh
+more-vertex M p = record { vertices = M .vertices ++ (p ∷ []); triangles = M .triangles }
+
+grown : (D S : Mesh) (p : Vec3) → firstSight (S .vertices) p ≡ length (S .vertices) → append D (withVertex S p) ≡ more-vertex (append D S) p
+unfolding append
+grown D S p e =
+    λ i. record {
+      vertices = (ap (λ (l : List Vec3). D .vertices ++ l) (with-new (S .vertices) p e) ∙ sym (append-assoc (D .vertices) (S .vertices) (p ∷ []))) i;
+      triangles = append D S .triangles;
+    }
+
+pub three-more : (n : ℕ) → 3 * (n + 1) ≡ 3 * n + 3
+three-more n = omega arith
+
+-- ---- the cases of `weld_point`
+-- what was found, by its case
+pub told : {f g : Found} (vs : List Float) (base count : ℕ) (p : Vec3) → f ≡ g → Sought vs base count p f → Sought vs base count p g
+told vs base count p e F = subst (Sought vs base count p) e F
+
+module _ (w : Welder) (vs : List Float) (ws : List ℕ) (L : Linked w vs ws) (p : Vec3) where
+  abbrev here : List ℕ → Held
+  here ts = held w vs ts ws
+
+  seen : (D S : Mesh) (ts : List ℕ) (m : ℕ) → w .room ≡ true → FirstAt vs (w .base) (w .count) p m → Rep D S (here ts) → m ≡ firstSight (S .vertices) p + length (D .vertices)
+  unfolding append
+  seen D S ts m e F R =
+      part-first (D .vertices) (S .vertices) vs (w .count) (R .holds e .vertices) (R .holds e .count) p m
+      (subst (λ (n : ℕ). FirstAt vs n (w .count) p m) (R .base e) F)
+
+  unseen : (D S : Mesh) (ts : List ℕ) → w .room ≡ true → Sought vs (w .base) (w .count) p Missing → Rep D S (here ts) → firstSight (S .vertices) p ≡ length (S .vertices)
+  unfolding append
+  unseen D S ts e F R =
+      part-none (D .vertices) (S .vertices) vs (w .count) (R .holds e .vertices) (R .holds e .count) p
+      (subst (λ (n : ℕ). Sought vs n (w .count) p Missing) (R .base e) F)
+
+  long : (D S : Mesh) (ts : List ℕ) → w .room ≡ true → Rep D S (here ts) → length (D .vertices) + length (S .vertices) ≡ w .count
+  unfolding append
+  long D S ts e R = sym (length-append (D .vertices) (S .vertices)) ∙ R .holds e .count
+
+  pub point-shut : w .room ≡ false → PointRuns p w vs ws (record { number = 0; st = w }) vs ws
+  point-shut f =
+      record {
+        linked = L;
+        faces = refl;
+        finite = refl;
+        sticky = λ q. q;
+        small = omega arith;
+        rep = λ D S ts R. rep-shut D S (withVertex S p) (here ts) f (with-longer (S .vertices) p) (omega arith) R;
+        number = λ D S ts R q. absurd (not-both (w .room) q f);
+      }
+
+  pub point-at : (m : ℕ) → w .room ≡ true → FirstAt vs (w .base) (w .count) p m → PointRuns p w vs ws (record { number = m; st = w }) vs ws
+  point-at m e F =
+      record {
+        linked = L;
+        faces = refl;
+        finite = refl;
+        sticky = λ q. q;
+        small = omega (arith, F .high, L .places, places-limit vs, L .chained .within);
+        rep = λ D S ts R. subst (λ (us : List Vec3). Rep D (record { vertices = us; triangles = S .triangles }) (here ts)) (sym (with-seen (S .vertices) p (omega
+            (arith, F .high, seen D S ts m e F R, long D S ts e R)))) R;
+        number = λ D S ts R q. seen D S ts m e F R;
+      }
+
+  pub point-full : w .room ≡ true → Sought vs (w .base) (w .count) p Missing → w .places ≤ w .count → PointRuns p w vs ws (record { number = 0; st = shut w }) vs ws
+  point-full e F k =
+      record {
+        linked = record { chained = L .chained; places = L .places };
+        faces = refl;
+        finite = refl;
+        sticky = λ q. e;
+        small = omega arith;
+        rep = λ D S ts R. record {
+          base = λ q. absurd (not-both false q refl);
+          holds = λ q. absurd (not-both false q refl);
+          over = λ q. subst (λ (M : Mesh). Over M (here ts)) (sym (grown D S p (unseen D S ts e F R)))
+              (inl (omega (arith, length-append (append D S .vertices) (p ∷ []), R .holds e .count, L .places)));
+        };
+        number = λ D S ts R q. absurd (not-both false q refl);
+      }
+
+  abbrev next : Welder
+  next = record { base = w .base; count = w .count + 1; places = w .places; faces = w .faces; finite = w .finite; room = w .room }
+
+  abbrev vs₁ : List Float
+  vs₁ = placed vs (w .count) p
+
+  held-more : (M : Mesh) (ts ws′ : List ℕ) → w .count < w .places → Holds M (here ts) → Holds (more-vertex M p) (held next vs₁ ts ws′)
+  held-more M ts ws′ k H =
+      record {
+        vertices =
+            flatV-append (M .vertices) (p ∷ [])
+            ∙ ap (λ (l : List Float). l ++ (p .x ∷ p .y ∷ p .z ∷ [])) (H .vertices)
+            ∙ sym (ap (λ (n : ℕ). take n vs₁) (three-more (w .count)) ∙ take-three vs (3 * w .count) (p .x) (p .y) (p .z) (omega (arith, L .chained .room)));
+        count = length-append (M .vertices) (p ∷ []) ∙ ap (λ (n : ℕ). n + 1) (H .count);
+        triangles = H .triangles;
+        faces = H .faces;
+      }
+
+  pub point-new : Clean p → (b : ℕ) → b ≡ bucketOf (w .places) p → b < w .places → w .room ≡ true → Sought vs (w .base) (w .count) p Missing → w .count < w .places
+      → PointRuns p w vs ws (record { number = w .count; st = next }) vs₁ (linkedIn ws (w .places) (w .count) b)
+  point-new cp b eb bl e F k =
+      record {
+        linked = record {
+          chained = chain-more vs ws (w .places) (w .base) (w .count) (L .chained) p cp k b eb bl F;
+          places = L .places ∙ places-long vs vs₁ (sym (simp length-set));
+        };
+        faces = refl;
+        finite = refl;
+        sticky = λ q. q;
+        small = omega (arith, L .places, places-limit vs);
+        rep = λ D S ts R. record {
+          base = R .base;
+          holds = λ q. subst (λ (M : Mesh). Holds M (held next vs₁ ts (linkedIn ws (w .places) (w .count) b))) (sym (grown D S p (unseen D S ts e F R)))
+              (held-more (append D S) ts (linkedIn ws (w .places) (w .count) b) k (R .holds q));
+          over = λ q. absurd (not-both (w .room) e q);
+        };
+        number = λ D S ts R q. omega (arith, unseen D S ts e F R, long D S ts e R);
+      }

@@ -1,0 +1,14 @@
+-- `weld::begin` meets its contract. Assumes nothing.
+use borrow.Author.Needs.{needs}
+use Rattle.weld.proofs.Parts.{begun}
+use Rattle.weld.proofs.begin.Statement.{statement}
+use Rattle.weld.proofs.begin.Tie as tie
+
+whole-places-requires : tie.Need-whole-places-requires
+whole-places-requires c κs = search needs
+
+returns : tie.Need-returns
+returns c = begun _ _ _ (c .whole-places .ensures) (c .before .before .before .pre .1) (c .before .before .before .pre .0)
+
+pub begin-spec : {M : Type 1} → statement M
+begin-spec = tie.close (tie.spec whole-places-requires returns)

@@ -1,0 +1,30 @@
+-- The points of a slice of floats, and points that came out of `+ 0.0`. Definitions only.
+use mathlib.Core.Path.{_≡_}
+use mathlib.Core.List.{List}
+use Prim.Native.Nat.{ℕ, _+_, _*_}
+use lib.ListN.{getD, set}
+use lib.Dec.{T}
+use lib.Ieee.{Float, nan, fits, binary64}
+use lib.Ieee.Scale.{finite}
+use Rattle.ieee.specs.Same.{canon}
+use Rattle.math.specs.declared.Vec3.{Vec3}
+
+-- a 64-bit float that is finite and no −0.0, as `c + 0.0` in from_soup leaves a finite c
+pub record CleanFloat (x : Float) : Type 0 where
+  pub fit : T (fits binary64 x)
+  pub finitely : T (finite x)
+  pub canonical : canon x ≡ x
+
+-- a point whose coordinates are such floats
+pub record Clean (p : Vec3) : Type 0 where
+  pub cx : CleanFloat (p .x)
+  pub cy : CleanFloat (p .y)
+  pub cz : CleanFloat (p .z)
+
+-- vertex m of a slice
+abbrev pub vertexAt : List Float → ℕ → Vec3
+vertexAt vs m = record { x = getD vs (3 * m) nan; y = getD vs (3 * m + 1) nan; z = getD vs (3 * m + 2) nan }
+
+-- a slice with p as vertex m
+abbrev pub placed : List Float → ℕ → Vec3 → List Float
+placed vs m p = set (set (set vs (3 * m) (p .x)) (3 * m + 1) (p .y)) (3 * m + 2) (p .z)

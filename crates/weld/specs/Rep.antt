@@ -1,0 +1,83 @@
+-- How the lent slices hold a mesh while it is welded, and what "this soup was welded" says. Definitions only; the public contracts cite them.
+use mathlib.Core.Path.{_≡_}
+use mathlib.Core.Bool.{true, false, _&&_}
+use mathlib.Core.List.{List}
+use mathlib.Core.Logic.{_⊎_}
+use Prim.Native.Nat.{ℕ, _*_, _/_, _≤_, _<_, min}
+use lib.ListN.{length, take}
+use lib.Ieee.{Float}
+use Rattle.math.specs.declared.Vec3.{Vec3}
+use Rattle.balance.specs.Soup.{Tri}
+use Rattle.balance.specs.Buffer.{flat}
+use Rattle.trimesh.specs.Mesh.{Mesh, noMesh, append, weldSoup, everyFinite}
+use Rattle.trimesh.specs.Slices.{flatV}
+use Rattle.weld.specs.declared.Welder.{Welder}
+use Rattle.weld.specs.Hash.{Chained}
+
+-- document 01, refusal 7: no more than this many vertices, nor triangles
+abbrev pub limit : ℕ
+limit = 4294967295
+
+-- the whole places of a slice, three entries each, at most the limit
+unfoldable pub placesOf : {A : Type 0} → List A → ℕ
+placesOf l = min (length l / 3) limit
+
+-- the state and the three lent slices
+pub record Held : Type 0 where
+  pub st : Welder
+  pub vertices : List Float
+  pub triangles : List ℕ
+  pub work : List ℕ
+
+abbrev pub held : Welder → List Float → List ℕ → List ℕ → Held
+held w vs ts ws = record { st = w; vertices = vs; triangles = ts; work = ws }
+
+-- the chains stand, and `places` counts the places for vertices
+pub record Linked (w : Welder) (vs : List Float) (ws : List ℕ) : Type 0 where
+  pub chained : Chained vs ws (w .places) (w .base) (w .count)
+  pub places : w .places ≡ placesOf vs
+
+-- what the code needs to be safe: nothing here speaks of the mesh
+pub record Ready (h : Held) : Type 0 where
+  pub linked : Linked (h .st) (h .vertices) (h .work)
+  pub faces : h .st .faces ≤ placesOf (h .triangles)
+
+-- the fronts of the slices are the mesh
+pub record Holds (M : Mesh) (h : Held) : Type 0 where
+  pub vertices : flatV (M .vertices) ≡ take (3 * h .st .count) (h .vertices)
+  pub count : length (M .vertices) ≡ h .st .count
+  pub triangles : flat (M .triangles) ≡ take (3 * h .st .faces) (h .triangles)
+  pub faces : length (M .triangles) ≡ h .st .faces
+
+-- document 01, refusal 7: the mesh has more vertices or triangles than whole places, or more than the limit of either
+abbrev pub Over : Mesh → Held → Type 0
+Over M h = (placesOf (h .vertices) < length (M .vertices)) ⊎ (placesOf (h .triangles) < length (M .triangles))
+
+-- D are the parts already appended, S is the part being welded; the slices hold D with S appended, or there was no room and that mesh does not fit
+pub record Rep (D S : Mesh) (h : Held) : Type 0 where
+  pub base : h .st .room ≡ true → h .st .base ≡ length (D .vertices)
+  pub holds : h .st .room ≡ true → Holds (append D S) h
+  pub over : h .st .room ≡ false → Over (append D S) h
+
+-- from h to k the soup was welded. `finite` tells whether all points were finite; only then does k tell of the mesh.
+pub record Runs (soup : List (Tri Vec3)) (h k : Held) : Type 0 where
+  pub ready : Ready k
+  pub vlong : length (k .vertices) ≡ length (h .vertices)
+  pub tlong : length (k .triangles) ≡ length (h .triangles)
+  pub wlong : length (k .work) ≡ length (h .work)
+  pub finite : k .st .finite ≡ (h .st .finite && everyFinite soup)
+  pub rep : k .st .finite ≡ true → (D S : Mesh) → Rep D S h → Rep D (weldSoup S soup) k
+
+-- a state in which nothing is welded yet
+pub record Begun (r : Welder) (vs : List Float) (ws : List ℕ) : Type 0 where
+  pub ready : (ts : List ℕ) → Ready (held r vs ts ws)
+  pub finite : r .finite ≡ true
+  pub room : r .room ≡ true
+  pub rep : (ts : List ℕ) → Rep noMesh noMesh (held r vs ts ws)
+
+-- the part so far is appended to those before it, and a new part begins
+pub record Parted (w r : Welder) : Type 0 where
+  pub ready : (vs : List Float) (ts ws : List ℕ) → Ready (held w vs ts ws) → Ready (held r vs ts ws)
+  pub finite : r .finite ≡ w .finite
+  pub room : r .room ≡ w .room
+  pub rep : (D S : Mesh) (vs : List Float) (ts ws : List ℕ) → Rep D S (held w vs ts ws) → Rep (append D S) noMesh (held r vs ts ws)

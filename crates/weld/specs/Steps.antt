@@ -1,0 +1,67 @@
+-- The steps of one turn of from_soup's loop, for points that came out of `+ 0.0`, and what each does to the slices. Definitions only.
+use mathlib.Core.Path.{_≡_}
+use mathlib.Core.Bool.{true, false, cond}
+use mathlib.Core.List.{List, [], _∷_, _++_}
+use Prim.Native.Nat.{ℕ, _+_, _≤_, _<_, _^_}
+use lib.ListN.{length}
+use lib.Ieee.{Float}
+use Rattle.math.specs.declared.Vec3.{Vec3}
+use Rattle.balance.specs.Soup.{Tri}
+use Rattle.trimesh.specs.Mesh.{Mesh, firstSight, withPoint, distinct}
+use Rattle.weld.specs.declared.Welder.{Welder}
+use Rattle.weld.specs.declared.Welded.{Welded}
+use Rattle.weld.specs.Rep.{Held, held, placesOf, Linked, Ready, Rep}
+
+-- the state after a point that is not finite
+abbrev pub unfinite : Welder → Welder
+unfinite w = record { base = w .base; count = w .count; places = w .places; faces = w .faces; finite = false; room = w .room }
+
+-- the state after the mesh did not fit
+abbrev pub shut : Welder → Welder
+shut w = record { base = w .base; count = w .count; places = w .places; faces = w .faces; finite = w .finite; room = false }
+
+-- the mesh after p was looked up
+abbrev pub withVertex : Mesh → Vec3 → Mesh
+withVertex S p = record { vertices = withPoint (S .vertices) p; triangles = S .triangles }
+
+-- the mesh after a triangle was offered: it stays where its numbers differ
+abbrev pub withTriangle : Mesh → Tri ℕ → Mesh
+withTriangle S t = record { vertices = S .vertices; triangles = cond (distinct t) (S .triangles ++ (t ∷ [])) (S .triangles) }
+
+-- one turn of from_soup's loop after `+ 0.0`
+unfoldable pub weldPoints : Mesh → Vec3 → Vec3 → Vec3 → Mesh
+weldPoints S a b c =
+    let A = withVertex S a in
+    let B = withVertex A b in
+    let C = withVertex B c in
+    withTriangle C (firstSight (S .vertices) a, firstSight (A .vertices) b, firstSight (B .vertices) c)
+
+-- one point was welded. Numbers in the slices count the vertices of the parts before, too.
+pub record PointRuns (p : Vec3) (w : Welder) (vs : List Float) (ws : List ℕ) (r : Welded) (vs′ : List Float) (ws′ : List ℕ) : Type 0 where
+  pub linked : Linked (r .st) vs′ ws′
+  pub faces : r .st .faces ≡ w .faces
+  pub finite : r .st .finite ≡ w .finite
+  pub sticky : r .st .room ≡ true → w .room ≡ true
+  pub small : r .number < 2 ^ 32
+  pub rep : (D S : Mesh) (ts : List ℕ) → Rep D S (held w vs ts ws) → Rep D (withVertex S p) (held (r .st) vs′ ts ws′)
+  pub number : (D S : Mesh) (ts : List ℕ) → Rep D S (held w vs ts ws) → r .st .room ≡ true → r .number ≡ firstSight (S .vertices) p + length (D .vertices)
+
+-- a triangle was offered; where there is room, a, b, c are the numbers that the mesh says
+pub record TriangleRuns (a b c : ℕ) (w : Welder) (ts : List ℕ) (r : Welder) (ts′ : List ℕ) : Type 0 where
+  pub base : r .base ≡ w .base
+  pub count : r .count ≡ w .count
+  pub places : r .places ≡ w .places
+  pub finite : r .finite ≡ w .finite
+  pub faces : r .faces ≤ placesOf ts′
+  pub rep : (D S : Mesh) (vs : List Float) (ws : List ℕ) (t : Tri ℕ)
+      → (w .room ≡ true → (a ≡ t .0 + length (D .vertices)) × (b ≡ t .1 + length (D .vertices)) × (c ≡ t .2 + length (D .vertices)))
+      → Rep D S (held w vs ts ws) → Rep D (withTriangle S t) (held r vs ts′ ws)
+
+-- the three points of a triangle were welded
+pub record PointsRun (a b c : Vec3) (h k : Held) : Type 0 where
+  pub ready : Ready k
+  pub vlong : length (k .vertices) ≡ length (h .vertices)
+  pub tlong : length (k .triangles) ≡ length (h .triangles)
+  pub wlong : length (k .work) ≡ length (h .work)
+  pub finite : k .st .finite ≡ h .st .finite
+  pub rep : (D S : Mesh) → Rep D S h → Rep D (weldPoints S a b c) k
