@@ -1,0 +1,5 @@
+pub mod Edges
+pub mod Kept
+pub mod Caps
+pub mod Guard
+pub mod Examples

@@ -1,0 +1,1 @@
+// Theorems on the clipper's definitions: see specs/.

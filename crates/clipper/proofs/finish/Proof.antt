@@ -1,0 +1,78 @@
+-- `clipper::finish` meets its contract. Assumes nothing.
+use denote.Ref.{now}
+use mathlib.Core.Path.{_≡_, refl, sym, ap, _∙_}
+use native.Mathlib.Omega.{arith}
+use lib.ListN.{getD}
+use Rattle.outline.specs.Corners.{point}
+use Rattle.ears.specs.Ears.{cross}
+use Rattle.clipper.proofs.Steps.{triangle-gives, flat-gives, few-gives}
+use borrow.Author.Needs.{needs}
+use Rattle.clipper.proofs.finish.Statement.{statement}
+use Rattle.clipper.proofs.finish.Tie as tie
+
+element-copy-out-i : tie.Need-element-copy-out-i
+element-copy-out-i c = search needs
+
+element-copy-out-j : tie.Need-element-copy-out-j
+element-copy-out-j c = search needs
+
+element-copy-out-k : tie.Need-element-copy-out-k
+element-copy-out-k c = search needs
+
+place-requires : tie.Need-place-requires
+place-requires c κs = c .before .before .before .before .before .before .before .pre .1 .inside .there 0 (omega (arith, c .before .before .before .if1 .taken))
+
+place-requires-2 : tie.Need-place-requires-2
+place-requires-2 c κs = c .before .before .before .before .before .before .before .before .pre .1 .inside .there 1 (omega (arith, c .before .before .before .before .if1 .taken))
+
+place-requires-3 : tie.Need-place-requires-3
+place-requires-3 c κs = c .before .before .before .before .before .before .before .before .before .pre .1 .inside .there 2 (omega (arith, c .before .before .before .before .before .if1 .taken))
+
+cross-requires : tie.Need-cross-requires
+cross-requires c κs = search needs
+
+put-requires : tie.Need-put-requires
+put-requires c κs = search needs
+
+add-t27 : tie.Need-add-t27
+add-t27 c = search needs
+
+same-length : tie.Need-same-length
+same-length c = search needs
+
+returns : tie.Need-returns
+returns c =
+    let d = c .before .before .before .before .before .before .before .before .before .before .before .before .before .before .before .before in
+    let a = d .args in
+    let v = now (a .corners) in
+    let x : c .before .before .before .before .before .cross .result ≡ cross (point v (getD (a .w .left .at) 0 0)) (point v (getD (a .w .left .at) 1 0)) (point v (getD (a .w .left .at) 2 0)) = cc in
+    (omega arith, triangle-gives v (a .e) (a .w) (now (a .out)) _ _ (d .pre .1) (c .before .before .before .before .before .before .before .before .before .before .before .before .if1 .taken) (c .before .before .put .kept .0) x (c .before .before .before .before .if2 .taken) (c .before .before .put .ensures))
+
+returns-2 : tie.Need-returns-2
+returns-2 c =
+    let d = c .before .before .before .before .before .before .before .before .before .before .before .before in
+    let a = d .args in
+    let v = now (a .corners) in
+    let x : c .before .cross .result ≡ cross (point v (getD (a .w .left .at) 0 0)) (point v (getD (a .w .left .at) 1 0)) (point v (getD (a .w .left .at) 2 0)) = cc in
+    (omega arith, flat-gives v (a .e) (a .w) (now (a .out)) _ (d .pre .1) (c .before .before .before .before .before .before .before .before .if1 .taken) x (c .if2 .left))
+
+returns-3 : tie.Need-returns-3
+returns-3 c = let d = c .before .before .before .before in (omega arith, few-gives (now (d .args .corners)) (d .args .e) (d .args .w) (now (d .args .out)) (d .pre .1) (c .if1 .left))
+
+pub finish-spec : {M : Type 1} → statement M
+finish-spec =
+    tie.close
+    (tie.spec
+    element-copy-out-i
+    element-copy-out-j
+    element-copy-out-k
+    place-requires
+    place-requires-2
+    place-requires-3
+    cross-requires
+    put-requires
+    add-t27
+    same-length
+    returns
+    returns-2
+    returns-3)

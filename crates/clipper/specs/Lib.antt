@@ -1,0 +1,3 @@
+pub mod Triangulate
+pub mod Slices
+pub mod Outcome

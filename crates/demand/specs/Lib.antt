@@ -1,0 +1,6 @@
+-- Demand 3, and document 01's figures marked (P).
+pub mod Words
+pub mod AcceptedLaws
+pub mod PartsClosed
+pub mod Demand3
+pub mod Table

@@ -1,0 +1,102 @@
+-- What an accepted call may rely on. Assumes nothing.
+use mathlib.Core.Path.{_≡_, refl, sym, ap, _∙_}
+use mathlib.Core.Bool.{Bool, true, false, not, _||_, cond, true≢false, false≢true}
+use mathlib.Core.List.{List}
+use Prim.Native.Nat.{ℕ, _+_, _*_, _≤_, _<_, _^_}
+use native.Mathlib.Omega.{arith}
+use lib.ListN.{length, take, getD}
+use lib.Dec.{ltb, eqb}
+use borrow.Author.Tests.{ltb-false}
+use Rattle.math.specs.Vec.{vFinite}
+use Rattle.transform.specs.declared.TransformOp.{TransformOp}
+use Rattle.transform.specs.Checks.{opCountWithin, opsFinite, opsAnglesWithin}
+use Rattle.trimesh.specs.Mesh.{append}
+use Rattle.refusal.specs.declared.Refusal.{Refusal}
+use Rattle.refusal.specs.declared.Refusal.the-variants.{Accepted, NotFinite, AngleTooLarge, BadList, PointNotFinite, NoRoom, BadMesh}
+use Rattle.mesh.specs.State.{State, meshOf, wholePlaces, every, badMesh, notFinite, checkOf, isAccepted, Sound}
+use Rattle.mesh.specs.Edits.{noRoom, appendRefusal, transformed, transformRefusal}
+use Rattle.mesh.proofs.Sound.{sound, places-three, places-limit, neither}
+use Rattle.mesh.proofs.Stored.{appended-vertices, appended-triangles}
+
+-- the first test of a call did not refuse
+first : (a : Bool) (q : Refusal) → isAccepted (cond a BadMesh q) ≡ true → a ≡ false
+first true q e = absurd (false≢true e)
+first false q e = refl
+
+last : (a b c : Bool) → isAccepted (cond a BadMesh (cond b NotFinite (cond c NoRoom Accepted))) ≡ true → c ≡ false
+last true b c e = absurd (false≢true e)
+last false true c e = absurd (false≢true e)
+last false false true e = absurd (false≢true e)
+last false false false e = refl
+
+module _ (s : State) where
+  pub check-sound : (r : Refusal) → r ≡ checkOf s → isAccepted r ≡ true → Sound s
+  unfolding checkOf
+  check-sound r e h = sound s (first (badMesh s) (cond (notFinite s) NotFinite Accepted) (sym (ap {B = Bool} isAccepted e) ∙ h))
+
+  pub transform-sound : (ops : List TransformOp) (count : ℕ) (degrees : Bool) (r : Refusal) → r ≡ transformRefusal ops count degrees s → isAccepted r ≡ true → Sound s
+  unfolding transformRefusal
+  transform-sound ops count degrees r e h =
+      sound s (
+      first (badMesh s)
+      (cond (not (opCountWithin count)) BadList
+      (cond (notFinite s || not (opsFinite (take count ops))) NotFinite
+      (cond (not (opsAnglesWithin degrees (take count ops))) AngleTooLarge
+      (cond (eqb count 0) Accepted
+      (cond (every vFinite (transformed ops count degrees (meshOf s) .vertices)) Accepted PointNotFinite)))))
+      (sym (ap {B = Bool} isAccepted e) ∙ h)
+      )
+
+-- two meshes of which the second can be appended to the first
+pub record Appends (s o : State) : Type 0 where
+  pub ok : Sound s
+  pub fine : Sound o
+  pub vertices : 3 * s .mesh .vertices + 3 * o .mesh .vertices ≤ length (s .vertices)
+  pub triangles : 3 * s .mesh .triangles + 3 * o .mesh .triangles ≤ length (s .triangles)
+  pub limit : s .mesh .vertices + o .mesh .vertices ≤ 4294967295
+  pub limitT : s .mesh .triangles + o .mesh .triangles ≤ 4294967295
+  pub fits : (i : ℕ) → i < 3 * o .mesh .triangles → getD (o .triangles) i 0 + s .mesh .vertices < 2 ^ 32
+
+module _ (s o : State) (r : Refusal) (e : r ≡ appendRefusal s o) (h : isAccepted r ≡ true) where
+  good : (badMesh s || badMesh o) ≡ false
+  unfolding appendRefusal
+  good = first (badMesh s || badMesh o) (cond (notFinite s || notFinite o) NotFinite (cond (noRoom (append (meshOf s) (meshOf o)) s) NoRoom Accepted)) (sym (ap {B = Bool} isAccepted e) ∙ h)
+
+  roomy : noRoom (append (meshOf s) (meshOf o)) s ≡ false
+  unfolding appendRefusal
+  roomy = last (badMesh s || badMesh o) (notFinite s || notFinite o) (noRoom (append (meshOf s) (meshOf o)) s) (sym (ap {B = Bool} isAccepted e) ∙ h)
+
+  soundS : Sound s
+  soundS = sound s (neither (badMesh s) (badMesh o) good .0)
+
+  soundO : Sound o
+  soundO = sound o (neither (badMesh s) (badMesh o) good .1)
+
+  abbrev vn : ℕ
+  vn = s .mesh .vertices + o .mesh .vertices
+
+  abbrev tn : ℕ
+  tn = s .mesh .triangles + o .mesh .triangles
+
+  rooms : (vn ≤ wholePlaces (length (s .vertices))) × (tn ≤ wholePlaces (length (s .triangles)))
+  unfolding noRoom
+  rooms =
+      let vp = wholePlaces (length (s .vertices)) in
+      let tp = wholePlaces (length (s .triangles)) in
+      let p = neither (ltb vp (length (append (meshOf s) (meshOf o) .vertices))) (ltb tp (length (append (meshOf s) (meshOf o) .triangles))) roomy in (
+        omega (arith, ltb-false vp (length (append (meshOf s) (meshOf o) .vertices)) (p .0), appended-vertices s o soundS soundO),
+        omega (arith, ltb-false tp (length (append (meshOf s) (meshOf o) .triangles)) (p .1), appended-triangles s o soundS soundO),
+      )
+
+  pub appends : Appends s o
+  appends =
+      let l : vn ≤ 4294967295 = places-limit vn (length (s .vertices)) (rooms .0) in
+      record {
+        ok = soundS;
+        fine = soundO;
+        vertices = omega (arith, places-three vn (length (s .vertices)) (rooms .0));
+        triangles = omega (arith, places-three tn (length (s .triangles)) (rooms .1));
+        limit = l;
+        limitT = places-limit tn (length (s .triangles)) (rooms .1);
+        fits = λ i q. omega (arith, soundO .below i q, l);
+      }

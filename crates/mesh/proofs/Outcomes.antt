@@ -1,0 +1,186 @@
+-- The outcome of each call by the tests in their order. Assumes nothing.
+use mathlib.Core.Path.{_≡_, refl, sym, ap, _∙_}
+use mathlib.Core.Bool.{Bool, true, false, not, _||_, cond}
+use mathlib.Core.List.{List, map}
+use Prim.Native.Nat.{ℕ, _+_, _*_, _≤_, _<_}
+use native.Mathlib.Omega.{arith}
+use lib.ListN.{length, take}
+use lib.Dec.{ltb, eqb}
+use lib.Ieee.{Float, binary64, lt, ofBits, toBits}
+use lib.Ieee.Scale.{finite}
+use borrow.Author.Tests.{lt-ltb, le-ltb}
+use Rattle.math.specs.declared.Vec3.{Vec3}
+use Rattle.math.specs.declared.Mat4.{Mat4}
+use Rattle.math.specs.Mat.{transformPoint, determinant}
+use Rattle.math.specs.Vec.{vFinite}
+use Rattle.transform.specs.declared.TransformOp.{TransformOp}
+use Rattle.transform.specs.Ops.{folded}
+use Rattle.transform.specs.Checks.{opCountWithin, opsFinite, opsAnglesWithin}
+use Rattle.trimesh.specs.Mesh.{Mesh, append, flip}
+use Rattle.trimesh.specs.Edits.{moved, transform}
+use Rattle.trimesh.specs.Slices.{points}
+use Rattle.refusal.specs.declared.Refusal.{Refusal}
+use Rattle.refusal.specs.declared.Refusal.the-variants.{Accepted, NotFinite, AngleTooLarge, BadList, PointNotFinite, NoRoom, BadMesh}
+use Rattle.mesh.specs.State.{State, meshOf, wholePlaces, every, badMesh, notFinite, checkOf, isAccepted, edited, Gives, Sound}
+use Rattle.mesh.specs.Edits.{noRoom, appendRefusal, transformed, transformRefusal}
+use Rattle.mesh.proofs.Stored.{appended-vertices, appended-triangles}
+
+-- ---- an edit
+module _ (q : Refusal) (s t : State) (r : Refusal) (e : r ≡ q) where
+  kept : isAccepted r ≡ false → edited q s t .state ≡ s
+  unfolding edited
+  kept h = rw (sym (ap {B = Bool} isAccepted e) ∙ h)
+
+  done : isAccepted r ≡ true → edited q s t .state ≡ t
+  unfolding edited
+  done h = rw (sym (ap {B = Bool} isAccepted e) ∙ h)
+
+  pub gives-kept : isAccepted r ≡ false → Gives (edited q s t) (record { refusal = r; mesh = s .mesh }) (s .vertices) (s .triangles)
+  unfolding edited
+  gives-kept h = record {
+    refusal = e;
+    mesh = sym (λ j. kept h j .mesh);
+    vertices = sym (λ j. kept h j .vertices);
+    triangles = sym (λ j. kept h j .triangles);
+  }
+
+  pub gives-done : (u : State) (vs : List Float) (ts : List ℕ) → isAccepted r ≡ true → t ≡ u → vs ≡ u .vertices → ts ≡ u .triangles
+      → Gives (edited q s t) (record { refusal = r; mesh = u .mesh }) vs ts
+  unfolding edited
+  gives-done u vs ts h w v x = record {
+    refusal = e;
+    mesh = sym (λ j. (done h ∙ w) j .mesh);
+    vertices = v ∙ sym (λ j. (done h ∙ w) j .vertices);
+    triangles = x ∙ sym (λ j. (done h ∙ w) j .triangles);
+  }
+
+-- ---- tests
+pub or-first : (a b : Bool) → a ≡ true → (a || b) ≡ true
+or-first a b e = rw e
+
+pub or-second : (a b : Bool) → a ≡ false → b ≡ true → (a || b) ≡ true
+or-second a b e f = rw (e, f)
+
+pub or-neither : (a b : Bool) → a ≡ false → b ≡ false → (a || b) ≡ false
+or-neither a b e f = rw (e, f)
+
+-- the test of the coordinates, as the loop answers it
+pub finite-test : (s : State) (r b : Bool) → r ≡ every finite (take (3 * s .mesh .vertices) (s .vertices)) → not r ≡ b → notFinite s ≡ b
+unfolding notFinite
+finite-test s r b e h = sym (ap {B = Bool} not e) ∙ h
+
+-- ---- append
+module _ (s o : State) where
+  pub append-bad : (badMesh s || badMesh o) ≡ true → BadMesh ≡ appendRefusal s o
+  unfolding appendRefusal
+  append-bad e = rw e
+
+  pub append-not-finite : (badMesh s || badMesh o) ≡ false → (notFinite s || notFinite o) ≡ true → NotFinite ≡ appendRefusal s o
+  unfolding appendRefusal
+  append-not-finite e f = rw (e, f)
+
+  module _ (e : (badMesh s || badMesh o) ≡ false) (f : (notFinite s || notFinite o) ≡ false) where
+    pub append-no-room : noRoom (append (meshOf s) (meshOf o)) s ≡ true → NoRoom ≡ appendRefusal s o
+    unfolding appendRefusal
+    append-no-room g = rw (e, f, g)
+
+    pub append-accepted : noRoom (append (meshOf s) (meshOf o)) s ≡ false → Accepted ≡ appendRefusal s o
+    unfolding appendRefusal
+    append-accepted g = rw (e, f, g)
+
+module _ (s o : State) (ok : Sound s) (fine : Sound o) where
+  abbrev vp : ℕ
+  vp = wholePlaces (length (s .vertices))
+
+  abbrev tp : ℕ
+  tp = wholePlaces (length (s .triangles))
+
+  room-is : noRoom (append (meshOf s) (meshOf o)) s ≡ (ltb vp (s .mesh .vertices + o .mesh .vertices) || ltb tp (s .mesh .triangles + o .mesh .triangles))
+  unfolding noRoom
+  room-is = λ j. ltb vp (appended-vertices s o ok fine j) || ltb tp (appended-triangles s o ok fine j)
+
+  pub no-vertex-room : vp < s .mesh .vertices + o .mesh .vertices → noRoom (append (meshOf s) (meshOf o)) s ≡ true
+  no-vertex-room h = room-is ∙ or-first (ltb vp (s .mesh .vertices + o .mesh .vertices)) (ltb tp (s .mesh .triangles + o .mesh .triangles))
+      (lt-ltb vp (s .mesh .vertices + o .mesh .vertices) h)
+
+  pub no-triangle-room : s .mesh .vertices + o .mesh .vertices ≤ vp → tp < s .mesh .triangles + o .mesh .triangles → noRoom (append (meshOf s) (meshOf o)) s ≡ true
+  no-triangle-room h k = room-is ∙ or-second (ltb vp (s .mesh .vertices + o .mesh .vertices)) (ltb tp (s .mesh .triangles + o .mesh .triangles))
+      (le-ltb vp (s .mesh .vertices + o .mesh .vertices) h) (lt-ltb tp (s .mesh .triangles + o .mesh .triangles) k)
+
+  pub room : s .mesh .vertices + o .mesh .vertices ≤ vp → s .mesh .triangles + o .mesh .triangles ≤ tp → noRoom (append (meshOf s) (meshOf o)) s ≡ false
+  room h k = room-is ∙ or-neither (ltb vp (s .mesh .vertices + o .mesh .vertices)) (ltb tp (s .mesh .triangles + o .mesh .triangles))
+      (le-ltb vp (s .mesh .vertices + o .mesh .vertices) h) (le-ltb tp (s .mesh .triangles + o .mesh .triangles) k)
+
+-- ---- the check of every call
+module _ (s : State) where
+  pub check-bad : badMesh s ≡ true → BadMesh ≡ checkOf s
+  unfolding checkOf
+  check-bad e = rw e
+
+  pub check-not-finite : badMesh s ≡ false → notFinite s ≡ true → NotFinite ≡ checkOf s
+  unfolding checkOf
+  check-not-finite e f = rw (e, f)
+
+  pub check-accepted : badMesh s ≡ false → notFinite s ≡ false → Accepted ≡ checkOf s
+  unfolding checkOf
+  check-accepted e f = rw (e, f)
+
+-- ---- transform
+module _ (ops : List TransformOp) (count : ℕ) (degrees : Bool) (s : State) where
+  abbrev used : List TransformOp
+  used = take count ops
+
+  pub transform-bad : badMesh s ≡ true → BadMesh ≡ transformRefusal ops count degrees s
+  unfolding transformRefusal
+  transform-bad e = rw e
+
+  module _ (good : badMesh s ≡ false) where
+    pub transform-long : opCountWithin count ≡ false → BadList ≡ transformRefusal ops count degrees s
+    unfolding transformRefusal
+    transform-long e = rw (good, e)
+
+    module _ (short : opCountWithin count ≡ true) where
+      pub transform-not-finite : (notFinite s || not (opsFinite used)) ≡ true → NotFinite ≡ transformRefusal ops count degrees s
+      unfolding transformRefusal
+      transform-not-finite e = rw (good, short, e)
+
+      module _ (known : (notFinite s || not (opsFinite used)) ≡ false) where
+        pub transform-angle : opsAnglesWithin degrees used ≡ false → AngleTooLarge ≡ transformRefusal ops count degrees s
+        unfolding transformRefusal
+        transform-angle e = rw (good, short, known, e)
+
+        module _ (within : opsAnglesWithin degrees used ≡ true) where
+          pub transform-none : eqb count 0 ≡ true → Accepted ≡ transformRefusal ops count degrees s
+          unfolding transformRefusal
+          transform-none e = rw (good, short, known, within, e)
+
+          pub transform-point : (r : Refusal) (b : Bool) → cond b Accepted PointNotFinite ≡ r → eqb count 0 ≡ false
+              → every vFinite (transformed ops count degrees (meshOf s) .vertices) ≡ b → r ≡ transformRefusal ops count degrees s
+          unfolding transformRefusal
+          transform-point r b h e f = rw (good, short, known, within, e, f) (sym h)
+
+pub transform-mirrors : (a : Mat4) (m : Mesh) → lt (determinant a) (ofBits binary64 0) ≡ true → transform a m ≡ flip (moved a m)
+unfolding transform
+transform-mirrors a m e = rw e
+
+pub transform-moves : (a : Mat4) (m : Mesh) → lt (determinant a) (ofBits binary64 0) ≡ false → transform a m ≡ moved a m
+unfolding transform
+transform-moves a m e = rw e
+
+transform-vertices : (a : Mat4) (m : Mesh) → transform a m .vertices ≡ map (transformPoint a) (m .vertices)
+unfolding transform moved flip
+transform-vertices a m = go (lt (determinant a) (ofBits binary64 0))
+  where
+    go : (b : Bool) → cond b (flip (moved a m)) (moved a m) .vertices ≡ map (transformPoint a) (m .vertices)
+    go true = refl
+    go false = refl
+
+-- the test of the transformed vertices, as the loop answers it for the matrix a
+pub points-test : (ops : List TransformOp) (count : ℕ) (degrees : Bool) (s : State) (a : Mat4) (r b : Bool) → a ≡ folded degrees (take count ops)
+    → r ≡ every vFinite (map (transformPoint a) (points (take (3 * s .mesh .vertices) (s .vertices)))) → r ≡ b → every vFinite (transformed ops count degrees (meshOf s) .vertices) ≡ b
+unfolding meshOf transformed
+points-test ops count degrees s a r b f e h =
+    ap {B = Bool} (every vFinite) (transform-vertices (folded degrees (take count ops)) (meshOf s))
+    ∙ sym (ap {B = Bool} (λ (m : Mat4). every vFinite (map (transformPoint m) (meshOf s .vertices))) f)
+    ∙ sym e
+    ∙ h

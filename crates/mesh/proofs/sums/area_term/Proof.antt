@@ -1,0 +1,64 @@
+-- `mesh::sums::area_term` meets its contract. Assumes nothing.
+use denote.Ref.{now}
+use lib.Ieee.{ofBits, ofInt}
+use Rattle.mesh.proofs.Terms.{area-value}
+use borrow.Author.Needs.{needs}
+use Rattle.mesh.proofs.sums.area_term.Statement.{statement}
+use Rattle.mesh.proofs.sums.area_term.Tie as tie
+
+mul-at : tie.Need-mul-at
+mul-at c = search needs
+
+corner-requires : tie.Need-corner-requires
+corner-requires c κs = search needs
+
+add-corner : tie.Need-add-corner
+add-corner c = search needs
+
+corner-requires-2 : tie.Need-corner-requires-2
+corner-requires-2 c κs = search needs
+
+add-corner-2 : tie.Need-add-corner-2
+add-corner-2 c = search needs
+
+corner-requires-3 : tie.Need-corner-requires-3
+corner-requires-3 c κs = search needs
+
+sub-requires : tie.Need-sub-requires
+sub-requires c κs = search needs
+
+sub-requires-2 : tie.Need-sub-requires-2
+sub-requires-2 c κs = search needs
+
+cross-requires : tie.Need-cross-requires
+cross-requires c κs = search needs
+
+norm-requires : tie.Need-norm-requires
+norm-requires c κs = search needs
+
+returns : tie.Need-returns
+unfolding ofBits ofInt
+returns c =
+    let a = c .before .before .before .before .before .before .before .before .before .args in
+    area-value (now (a .vertices)) (now (a .triangles)) (a .i) (c .before .before .before .before .before .before .corner .result)
+    (c .before .before .before .before .before .corner2 .result) (c .before .before .before .before .corner3 .result) (c .before .before .before .sub .result)
+    (c .before .before .sub2 .result) (c .before .cross .result) (c .norm .result)
+    (c .before .before .before .before .before .before .corner .ensures) (c .before .before .before .before .before .corner2 .ensures)
+    (c .before .before .before .before .corner3 .ensures) (c .before .before .before .sub .ensures) (c .before .before .sub2 .ensures) (c .before .cross .ensures)
+    (c .norm .ensures)
+
+pub area-term-spec : {M : Type 1} → statement M
+area-term-spec =
+    tie.close
+    (tie.spec
+    mul-at
+    corner-requires
+    add-corner
+    corner-requires-2
+    add-corner-2
+    corner-requires-3
+    sub-requires
+    sub-requires-2
+    cross-requires
+    norm-requires
+    returns)

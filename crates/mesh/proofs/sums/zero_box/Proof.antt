@@ -1,0 +1,12 @@
+-- `mesh::sums::zero_box` meets its contract. Assumes nothing.
+use mathlib.Core.Path.{refl}
+use Rattle.mesh.specs.Measures.{zeroBox}
+use Rattle.mesh.proofs.sums.zero_box.Statement.{statement}
+use Rattle.mesh.proofs.sums.zero_box.Tie as tie
+
+returns : tie.Need-returns
+unfolding zeroBox
+returns c = refl
+
+pub zero-box-spec : {M : Type 1} → statement M
+zero-box-spec = tie.close (tie.spec returns)

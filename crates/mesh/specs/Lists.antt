@@ -1,0 +1,120 @@
+-- Document 01, "The lists of demand 3": what holds of a mesh after any list of appends, flips and transforms, refused ones included.
+-- The calls are those that the contracts of `append`, `flip` and `transform` cite. Assumes nothing; counts beyond the slices need no exception, since check 8 refuses then.
+use mathlib.Core.Path.{_≡_, refl, sym, subst}
+use mathlib.Core.Bool.{Bool, true, false, cond}
+use mathlib.Core.List.{List, [], _∷_}
+use Prim.Native.Nat.{ℕ}
+use lib.ListN.{take}
+use lib.Dec.{eqb}
+use Rattle.math.specs.declared.Mat4.{Mat4}
+use Rattle.transform.specs.declared.TransformOp.{TransformOp}
+use Rattle.transform.specs.Ops.{folded}
+use Rattle.trimesh.specs.Mesh.{Mesh, append, flip}
+use Rattle.trimesh.specs.Edits.{transform}
+use Rattle.trimesh.specs.Closed.{Closed, NoneTwice, AllThere}
+use Rattle.trimesh.specs.ClosedLaws.{append-closed, flip-closed, transform-closed}
+use Rattle.trimesh.specs.ProperLaws.{append-none-twice, flip-none-twice, transform-none-twice, append-all-there, flip-all-there, transform-all-there}
+use Rattle.refusal.specs.declared.Refusal.{Refusal}
+use Rattle.refusal.specs.declared.Refusal.the-variants.{Accepted, NotFinite, AngleTooLarge, TooManySegments, BadList, PointNotFinite, ShortWork, NoRoom, BadMesh}
+use Rattle.mesh.specs.State.{State, meshOf, stored, checkOf, isAccepted, Outcome, edited}
+use Rattle.mesh.specs.StateLaws.{mesh-stored}
+use Rattle.mesh.specs.Edits.{appendRefusal, appendOf, flipOf, transformed, transformRefusal, transformOf}
+
+-- ---- the statement
+-- one call: the mesh to append, or the operations, their count and the degrees mark
+pub data Call : Type 0 where
+  Append : State → Call
+  Flip : Call
+  Transform : List TransformOp → ℕ → Bool → Call
+
+abbrev pub outcome : Call → State → Outcome
+outcome (Append o) s = appendOf s o
+outcome Flip s = flipOf s
+outcome (Transform ops count degrees) s = transformOf ops count degrees s
+
+-- each call gets the record and slices as the last one left them
+abbrev pub after : State → List Call → State
+after s [] = s
+after s (c ∷ cs) = after (outcome c s .state) cs
+
+-- a mesh to append has the property, unless its call is refused
+abbrev pub Brings : (Mesh → Type 0) → Call → State → Type 0
+Brings P (Append o) s = appendOf s o .refusal ≡ Accepted → P (meshOf o)
+Brings P Flip s = Unit
+Brings P (Transform ops count degrees) s = Unit
+
+-- so has each mesh that a list appends
+abbrev pub AllBring : (Mesh → Type 0) → List Call → State → Type 0
+AllBring P [] s = Unit
+AllBring P (c ∷ cs) s = Brings P c s × AllBring P cs (outcome c s .state)
+
+-- a property of the start and of each mesh appended is one of the mesh after the list
+abbrev pub Kept : (Mesh → Type 0) → State → List Call → Type 0
+Kept P s calls = P (meshOf s) → AllBring P calls s → P (meshOf (after s calls))
+
+pub record KeptByLists : Type 0 where
+  pub closed : (s : State) (calls : List Call) → Kept Closed s calls
+  pub noneTwice : (s : State) (calls : List Call) → Kept NoneTwice s calls
+  pub allThere : (s : State) (calls : List Call) → Kept AllThere s calls
+
+-- ---- the proof
+-- the three edits of a mesh keep a property
+record KeptByEdits (P : Mesh → Type 0) : Type 0 where
+  appended : (m o : Mesh) → P m → P o → P (append m o)
+  flipped : (m : Mesh) → P m → P (flip m)
+  transformed : (a : Mat4) (m : Mesh) → P m → P (transform a m)
+
+module _ (P : Mesh → Type 0) (k : KeptByEdits P) (s : State) (start : P (meshOf s)) where
+  held : (m : Mesh) → P m → P (meshOf (stored m s))
+  held m p = subst P (sym (mesh-stored m s)) p
+
+  -- after an edit to t, where t has the property unless the call is refused
+  by-edit : (r : Refusal) (t : State) → (r ≡ Accepted → P (meshOf t)) → P (meshOf (edited r s t .state))
+  unfolding edited
+  by-edit Accepted t h = h refl
+  by-edit NotFinite t h = start
+  by-edit AngleTooLarge t h = start
+  by-edit TooManySegments t h = start
+  by-edit BadList t h = start
+  by-edit PointNotFinite t h = start
+  by-edit ShortWork t h = start
+  by-edit NoRoom t h = start
+  by-edit BadMesh t h = start
+
+  by-append : (o : State) → (appendOf s o .refusal ≡ Accepted → P (meshOf o)) → P (meshOf (appendOf s o .state))
+  unfolding appendOf
+  by-append o h =
+      let m = append (meshOf s) (meshOf o) in
+      by-edit (appendRefusal s o) (stored m s) (λ e. held m (k .appended (meshOf s) (meshOf o) start (h e)))
+
+  by-flip : P (meshOf (flipOf s .state))
+  unfolding flipOf
+  by-flip = by-edit (checkOf s) (stored (flip (meshOf s)) s) (λ e. held (flip (meshOf s)) (k .flipped (meshOf s) start))
+
+  by-transform : (ops : List TransformOp) (count : ℕ) (degrees : Bool) → P (meshOf (transformOf ops count degrees s .state))
+  unfolding transformOf transformed
+  by-transform ops count degrees = by-edit (transformRefusal ops count degrees s) (cond (eqb count 0) s (stored m s)) (λ e. go (eqb count 0))
+    where
+      m : Mesh
+      m = transformed ops count degrees (meshOf s)
+
+      go : (b : Bool) → P (meshOf (cond b s (stored m s)))
+      go true = start
+      go false = held m (k .transformed (folded degrees (take count ops)) (meshOf s) start)
+
+  by-call : (c : Call) → Brings P c s → P (meshOf (outcome c s .state))
+  by-call (Append o) h = by-append o h
+  by-call Flip h = by-flip
+  by-call (Transform ops count degrees) h = by-transform ops count degrees
+
+by-list : (P : Mesh → Type 0) → KeptByEdits P → (s : State) (calls : List Call) → Kept P s calls
+by-list P k s [] start h = start
+by-list P k s (c ∷ cs) start h = by-list P k (outcome c s .state) cs (by-call P k s start c (h .0)) (h .1)
+
+-- demand 3, the lists: closed stays closed, and no triangle names a vertex twice or one that isn't there
+pub kept-by-lists : KeptByLists
+kept-by-lists = record {
+  closed = by-list Closed (record { appended = append-closed; flipped = flip-closed; transformed = transform-closed });
+  noneTwice = by-list NoneTwice (record { appended = append-none-twice; flipped = flip-none-twice; transformed = transform-none-twice });
+  allThere = by-list AllThere (record { appended = append-all-there; flipped = flip-all-there; transformed = transform-all-there });
+}

@@ -1,0 +1,90 @@
+// The edits of a mesh.
+ghost use Rattle.mesh.specs.State.{state, Gives};
+ghost use Rattle.mesh.specs.Edits.{appendOf, flipOf, transformOf};
+use crate::Edited;
+use crate::TriMesh;
+use crate::moves;
+use crate::refusals;
+use crate::writes;
+use transform::TransformOp;
+
+// Appends the other mesh, which lies in other slices: its vertices follow, and its numbers go up by the vertex count.
+pub fn append(
+    mesh: TriMesh,
+    vertices: &mut [f64],
+    triangles: &mut [u32],
+    other: TriMesh,
+    other_vertices: &[f64],
+    other_triangles: &[u32],
+) -> Edited
+    ensures { λ r. ⌜ Gives
+        (appendOf (state mesh (now (vertices .entry)) (now (triangles .entry))) (state other (now («other_vertices» .entry)) (now («other_triangles» .entry))))
+        r (now (vertices .exit)) (now (triangles .exit)) ⌝ }
+{
+    let n = mesh.vertices;
+    let k = mesh.triangles;
+    let more_n = other.vertices;
+    let more_k = other.triangles;
+    let refusal = refusals::append_refusal(
+        mesh,
+        vertices,
+        triangles,
+        other,
+        other_vertices,
+        other_triangles,
+    );
+    if !refusals::accepted(refusal) {
+        return Edited { refusal, mesh };
+    }
+    writes::copy(vertices, 3 * n, other_vertices, 3 * more_n);
+    writes::copy_up(triangles, 3 * k, other_triangles, 3 * more_k, n as u32);
+    Edited {
+        refusal,
+        mesh: TriMesh {
+            vertices: n + more_n,
+            triangles: k + more_k,
+        },
+    }
+}
+
+// Reverses every triangle.
+pub fn flip(mesh: TriMesh, vertices: &[f64], triangles: &mut [u32]) -> Edited
+    ensures { λ r. ⌜ Gives (flipOf (state mesh (now (vertices .entry)) (now (triangles .entry)))) r (now (vertices .entry)) (now (triangles .exit)) ⌝ }
+{
+    let k = mesh.triangles;
+    let refusal = refusals::check(mesh, vertices, triangles);
+    if !refusals::accepted(refusal) {
+        return Edited { refusal, mesh };
+    }
+    writes::turn_all(triangles, k);
+    Edited { refusal, mesh }
+}
+
+// Moves the vertices by the first op_count operations, whose angles are in degrees or in radians. A mirroring flips the triangles.
+pub fn transform(
+    mesh: TriMesh,
+    vertices: &mut [f64],
+    triangles: &mut [u32],
+    ops: [TransformOp; 16],
+    op_count: usize,
+    degrees: bool,
+) -> Edited
+    ensures { λ r. ⌜ Gives (transformOf ops «op_count» degrees (state mesh (now (vertices .entry)) (now (triangles .entry)))) r (now (vertices .exit)) (now (triangles .exit)) ⌝ }
+{
+    let n = mesh.vertices;
+    let k = mesh.triangles;
+    let refusal = refusals::transform_refusal(mesh, vertices, triangles, ops, op_count, degrees);
+    if !refusals::accepted(refusal) {
+        return Edited { refusal, mesh };
+    }
+    if op_count == 0 {
+        return Edited { refusal, mesh };
+    }
+    let a = transform::fold(ops, op_count, degrees);
+    moves::move_all(vertices, n, a);
+    if math::determinant(a) < 0.0 {
+        writes::turn_all(triangles, k);
+        return Edited { refusal, mesh };
+    }
+    Edited { refusal, mesh }
+}

@@ -1,0 +1,75 @@
+// The measures of a mesh. They change nothing.
+ghost use mathlib.Core.Path.{_≡_};
+ghost use Rattle.mesh.specs.State.{state};
+ghost use Rattle.mesh.specs.Measures.{signedVolumeOf, areaOf, enclosedVolumeOf, boundingBoxOf};
+use crate::Boxed;
+use crate::Measured;
+use crate::TriMesh;
+use crate::refusals;
+use crate::sums;
+
+// The volume that the triangles enclose, positive where they are counter-clockwise seen from outside.
+pub fn signed_volume(mesh: TriMesh, vertices: &[f64], triangles: &[u32]) -> Measured
+    ensures { λ r. ⌜ r ≡ signedVolumeOf (state mesh (now (vertices .entry)) (now (triangles .entry))) ⌝ }
+{
+    let k = mesh.triangles;
+    let refusal = refusals::check(mesh, vertices, triangles);
+    if !refusals::accepted(refusal) {
+        return Measured { refusal, bits: 0 };
+    }
+    let x = sums::volume_sum(vertices, triangles, k) / 6.0;
+    Measured {
+        refusal,
+        bits: sums::bits_of(x),
+    }
+}
+
+// The absolute value of the signed volume.
+pub fn enclosed_volume(mesh: TriMesh, vertices: &[f64], triangles: &[u32]) -> Measured
+    ensures { λ r. ⌜ r ≡ enclosedVolumeOf (state mesh (now (vertices .entry)) (now (triangles .entry))) ⌝ }
+{
+    let k = mesh.triangles;
+    let refusal = refusals::check(mesh, vertices, triangles);
+    if !refusals::accepted(refusal) {
+        return Measured { refusal, bits: 0 };
+    }
+    let x = ieee::abs(sums::volume_sum(vertices, triangles, k) / 6.0);
+    Measured {
+        refusal,
+        bits: sums::bits_of(x),
+    }
+}
+
+// The area of all triangles.
+pub fn area(mesh: TriMesh, vertices: &[f64], triangles: &[u32]) -> Measured
+    ensures { λ r. ⌜ r ≡ areaOf (state mesh (now (vertices .entry)) (now (triangles .entry))) ⌝ }
+{
+    let k = mesh.triangles;
+    let refusal = refusals::check(mesh, vertices, triangles);
+    if !refusals::accepted(refusal) {
+        return Measured { refusal, bits: 0 };
+    }
+    let x = sums::area_sum(vertices, triangles, k);
+    Measured {
+        refusal,
+        bits: sums::bits_of(x),
+    }
+}
+
+// The box of the vertices.
+pub fn bounding_box(mesh: TriMesh, vertices: &[f64], triangles: &[u32]) -> Boxed
+    ensures { λ r. ⌜ r ≡ boundingBoxOf (state mesh (now (vertices .entry)) (now (triangles .entry))) ⌝ }
+{
+    let n = mesh.vertices;
+    let refusal = refusals::check(mesh, vertices, triangles);
+    if !refusals::accepted(refusal) {
+        return Boxed {
+            refusal,
+            bounds: sums::zero_box(),
+        };
+    }
+    Boxed {
+        refusal,
+        bounds: sums::plus_zero(sums::box_of(vertices, n)),
+    }
+}

@@ -1,0 +1,65 @@
+// The vertices under a matrix: first whether they stay finite, then the vertices themselves.
+ghost use mathlib.Core.Path.{_≡_};
+ghost use mathlib.Core.List.{map};
+ghost use Prim.Native.Nat.{_+_, _*_, _≤_};
+ghost use lib.ListN.{length, take};
+ghost use lib.Ieee.{nan};
+ghost use Rattle.math.specs.Vec.{vFinite};
+ghost use Rattle.math.specs.Mat.{transformPoint};
+ghost use Rattle.trimesh.specs.Slices.{points};
+ghost use Rattle.trimesh.specs.SliceLaws.{triOf};
+ghost use Rattle.mesh.specs.State.{every};
+ghost use Rattle.mesh.specs.Triples.{eachTo, putTriple, vertexAt, movedTriple};
+use math::Mat4;
+use math::Vec3;
+
+// Vertex i.
+pub fn vertex(vertices: &[f64], i: usize) -> Vec3
+    requires { ⌜ 3 * i + 3 ≤ length (now vertices) ⌝ }
+    ensures { λ r. ⌜ r ≡ vertexAt (now (vertices .entry)) i ⌝ }
+{
+    let at = 3 * i;
+    Vec3 {
+        x: vertices[at],
+        y: vertices[at + 1],
+        z: vertices[at + 2],
+    }
+}
+
+fn put_vertex(vertices: &mut [f64], i: usize, p: Vec3)
+    requires { ⌜ 3 * i + 3 ≤ length (now vertices) ⌝ }
+    ensures { λ _. ⌜ now (vertices .exit) ≡ putTriple (now (vertices .entry)) i (triOf p) ⌝ }
+{
+    let at = 3 * i;
+    vertices[at] = p.x;
+    vertices[at + 1] = p.y;
+    vertices[at + 2] = p.z;
+}
+
+// Whether the first n vertices are finite after the matrix. Writes nothing.
+pub fn stay_finite(vertices: &[f64], n: usize, a: Mat4) -> bool
+    requires { ⌜ 3 * n ≤ length (now vertices) ⌝ }
+    ensures { λ r. ⌜ r ≡ every vFinite (map (transformPoint a) (points (take (3 * n) (now (vertices .entry))))) ⌝ }
+{
+    let mut i = 0;
+    while i < n {
+        if !math::is_finite(math::transform_point(a, vertex(vertices, i))) {
+            return false;
+        }
+        i += 1;
+    }
+    true
+}
+
+// Puts the first n vertices under the matrix.
+pub fn move_all(vertices: &mut [f64], n: usize, a: Mat4)
+    requires { ⌜ 3 * n ≤ length (now vertices) ⌝ }
+    ensures { λ _. ⌜ now (vertices .exit) ≡ eachTo (movedTriple a) n (now (vertices .entry)) ⌝ }
+{
+    let mut i = 0;
+    while i < n {
+        let p = math::transform_point(a, vertex(vertices, i));
+        put_vertex(vertices, i, p);
+        i += 1;
+    }
+}

@@ -1,0 +1,109 @@
+// Which refusal a call answers, in document 01's order. Nothing is written here.
+ghost use mathlib.Core.Path.{_≡_};
+ghost use Rattle.mesh.specs.State.{state, checkOf, isAccepted};
+ghost use Rattle.mesh.specs.Edits.{appendRefusal, transformRefusal};
+use crate::TriMesh;
+use crate::checks;
+use crate::moves;
+use refusal::Refusal;
+use transform::TransformOp;
+
+pub fn accepted(r: Refusal) -> bool
+    ensures { λ b. ⌜ b ≡ isAccepted r ⌝ }
+{
+    match r {
+        Refusal::Accepted => true,
+        Refusal::NotFinite => false,
+        Refusal::AngleTooLarge => false,
+        Refusal::TooManySegments => false,
+        Refusal::BadList => false,
+        Refusal::PointNotFinite => false,
+        Refusal::ShortWork => false,
+        Refusal::NoRoom => false,
+        Refusal::BadMesh => false,
+    }
+}
+
+// What every mesh call checks first: 8, then 1.
+pub fn check(mesh: TriMesh, vertices: &[f64], triangles: &[u32]) -> Refusal
+    ensures { λ r. ⌜ r ≡ checkOf (state mesh (now (vertices .entry)) (now (triangles .entry))) ⌝ }
+{
+    let n = mesh.vertices;
+    if checks::bad_mesh(mesh, vertices, triangles) {
+        return Refusal::BadMesh;
+    }
+    if !checks::all_finite(vertices, 3 * n) {
+        return Refusal::NotFinite;
+    }
+    Refusal::Accepted
+}
+
+pub fn append_refusal(
+    mesh: TriMesh,
+    vertices: &[f64],
+    triangles: &[u32],
+    other: TriMesh,
+    other_vertices: &[f64],
+    other_triangles: &[u32],
+) -> Refusal
+    ensures { λ r. ⌜ r ≡ appendRefusal (state mesh (now (vertices .entry)) (now (triangles .entry))) (state other (now («other_vertices» .entry)) (now («other_triangles» .entry))) ⌝ }
+{
+    let n = mesh.vertices;
+    let k = mesh.triangles;
+    let more_n = other.vertices;
+    let more_k = other.triangles;
+    if checks::bad_mesh(mesh, vertices, triangles) {
+        return Refusal::BadMesh;
+    }
+    if checks::bad_mesh(other, other_vertices, other_triangles) {
+        return Refusal::BadMesh;
+    }
+    if !checks::all_finite(vertices, 3 * n) {
+        return Refusal::NotFinite;
+    }
+    if !checks::all_finite(other_vertices, 3 * more_n) {
+        return Refusal::NotFinite;
+    }
+    if checks::places(vertices.len()) < n + more_n {
+        return Refusal::NoRoom;
+    }
+    if checks::places(triangles.len()) < k + more_k {
+        return Refusal::NoRoom;
+    }
+    Refusal::Accepted
+}
+
+pub fn transform_refusal(
+    mesh: TriMesh,
+    vertices: &[f64],
+    triangles: &[u32],
+    ops: [TransformOp; 16],
+    op_count: usize,
+    degrees: bool,
+) -> Refusal
+    ensures { λ r. ⌜ r ≡ transformRefusal ops «op_count» degrees (state mesh (now (vertices .entry)) (now (triangles .entry))) ⌝ }
+{
+    let n = mesh.vertices;
+    if checks::bad_mesh(mesh, vertices, triangles) {
+        return Refusal::BadMesh;
+    }
+    if !transform::op_count_within(op_count) {
+        return Refusal::BadList;
+    }
+    if !checks::all_finite(vertices, 3 * n) {
+        return Refusal::NotFinite;
+    }
+    if !transform::ops_finite(ops, op_count) {
+        return Refusal::NotFinite;
+    }
+    if !transform::ops_angles_within(ops, op_count, degrees) {
+        return Refusal::AngleTooLarge;
+    }
+    if op_count == 0 {
+        return Refusal::Accepted;
+    }
+    if !moves::stay_finite(vertices, n, transform::fold(ops, op_count, degrees)) {
+        return Refusal::PointNotFinite;
+    }
+    Refusal::Accepted
+}

@@ -1,0 +1,137 @@
+// The sums over the triangles, the box of the vertices, and a float's bits.
+ghost use mathlib.Core.Path.{_≡_};
+ghost use Prim.Native.Nat.{_+_, _*_, _≤_, _<_};
+ghost use lib.ListN.{length, take, getD};
+ghost use lib.Ieee.{binary64, toBits, ofBits};
+ghost use Rattle.math.specs.Box.{emptyBox};
+ghost use Rattle.trimesh.specs.Slices.{points};
+ghost use Rattle.trimesh.specs.Measures.{volumeTerm, areaTerm, sumOf, including, plusZeroBox};
+ghost use Rattle.mesh.specs.Triples.{vertexAt, cornersAt, cornersOf, CornersWithin, AllWithin};
+ghost use Rattle.mesh.specs.Measures.{zeroBox};
+use crate::checks::wide;
+use crate::moves::vertex;
+use math::BoundingBox;
+use math::Vec3;
+
+// The vertex whose number stands at place at of the triangles.
+fn corner(vertices: &[f64], triangles: &[u32], at: usize) -> Vec3
+    requires { ⌜ (at < length (now triangles)) × (3 * getD (now triangles) at 0 + 3 ≤ length (now vertices)) ⌝ }
+    ensures { λ r. ⌜ r ≡ vertexAt (now (vertices .entry)) (getD (now (triangles .entry)) at 0) ⌝ }
+{
+    vertex(vertices, wide(triangles[at]))
+}
+
+// The term of triangle i in the volume.
+fn volume_term(vertices: &[f64], triangles: &[u32], i: usize) -> f64
+    requires { ⌜ CornersWithin (now vertices) (now triangles) i ⌝ }
+    ensures { λ r. ⌜ r ≡ volumeTerm (cornersAt (now (vertices .entry)) (now (triangles .entry)) i) ⌝ }
+{
+    let at = 3 * i;
+    let a = corner(vertices, triangles, at);
+    let b = corner(vertices, triangles, at + 1);
+    let c = corner(vertices, triangles, at + 2);
+    math::dot(a, math::cross(b, c))
+}
+
+// The area of triangle i.
+fn area_term(vertices: &[f64], triangles: &[u32], i: usize) -> f64
+    requires { ⌜ CornersWithin (now vertices) (now triangles) i ⌝ }
+    ensures { λ r. ⌜ r ≡ areaTerm (cornersAt (now (vertices .entry)) (now (triangles .entry)) i) ⌝ }
+{
+    let at = 3 * i;
+    let a = corner(vertices, triangles, at);
+    let b = corner(vertices, triangles, at + 1);
+    let c = corner(vertices, triangles, at + 2);
+    math::norm(math::cross(math::sub(b, a), math::sub(c, a))) / 2.0
+}
+
+// The sum of the volume terms of the first k triangles.
+pub fn volume_sum(vertices: &[f64], triangles: &[u32], k: usize) -> f64
+    requires { ⌜ AllWithin (now vertices) (now triangles) k ⌝ }
+    ensures { λ r. ⌜ r ≡ sumOf volumeTerm (ofBits binary64 0) (cornersOf (now (vertices .entry)) (now (triangles .entry)) k) ⌝ }
+{
+    let mut sum = 0.0;
+    let mut i = 0;
+    while i < k {
+        sum = sum + volume_term(vertices, triangles, i);
+        i += 1;
+    }
+    sum
+}
+
+// The sum of the areas of the first k triangles.
+pub fn area_sum(vertices: &[f64], triangles: &[u32], k: usize) -> f64
+    requires { ⌜ AllWithin (now vertices) (now triangles) k ⌝ }
+    ensures { λ r. ⌜ r ≡ sumOf areaTerm (ofBits binary64 0) (cornersOf (now (vertices .entry)) (now (triangles .entry)) k) ⌝ }
+{
+    let mut sum = 0.0;
+    let mut i = 0;
+    while i < k {
+        sum = sum + area_term(vertices, triangles, i);
+        i += 1;
+    }
+    sum
+}
+
+// The box of the first n vertices.
+pub fn box_of(vertices: &[f64], n: usize) -> BoundingBox
+    requires { ⌜ 3 * n ≤ length (now vertices) ⌝ }
+    ensures { λ r. ⌜ r ≡ including emptyBox (points (take (3 * n) (now (vertices .entry)))) ⌝ }
+{
+    let mut b = math::empty_box();
+    let mut i = 0;
+    while i < n {
+        b = math::include(b, vertex(vertices, i));
+        i += 1;
+    }
+    b
+}
+
+// The box with +0.0 for a bound of −0.0.
+pub fn plus_zero(b: BoundingBox) -> BoundingBox
+    ensures { λ r. ⌜ r ≡ plusZeroBox b ⌝ }
+{
+    let low = b.min;
+    let high = b.max;
+    BoundingBox {
+        min: Vec3 {
+            x: low.x + 0.0,
+            y: low.y + 0.0,
+            z: low.z + 0.0,
+        },
+        max: Vec3 {
+            x: high.x + 0.0,
+            y: high.y + 0.0,
+            z: high.z + 0.0,
+        },
+    }
+}
+
+// The box whose bounds are all zero.
+pub fn zero_box() -> BoundingBox
+    ensures { λ r. ⌜ r ≡ zeroBox ⌝ }
+{
+    BoundingBox {
+        min: Vec3 {
+            x: 0.0,
+            y: 0.0,
+            z: 0.0,
+        },
+        max: Vec3 {
+            x: 0.0,
+            y: 0.0,
+            z: 0.0,
+        },
+    }
+}
+
+// The bits of x. Every NaN is 7FF8000000000000.
+pub fn bits_of(x: f64) -> u64
+    ensures { λ r. ⌜ r ≡ toBits binary64 x ⌝ }
+{
+    if x != x {
+        0x7FF8000000000000
+    } else {
+        f64::to_bits(x)
+    }
+}

@@ -1,0 +1,6 @@
+-- What the contract of `tessellate` cites.
+pub mod Solid
+pub mod Outcome
+pub mod Examples
+pub mod SolidLaws
+pub mod OutcomeLaws

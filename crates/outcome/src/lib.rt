@@ -1,0 +1,1 @@
+// The outcome of the call `tessellate`: definitions only, in specs/.

@@ -1,0 +1,41 @@
+-- `outline::clean_polygon` meets its contract. Assumes nothing.
+use lib.ListN.{length}
+use denote.Ref.{now}
+use mathlib.Core.Path.{_≡_, refl, sym, ap, _∙_}
+use native.Mathlib.Omega.{arith}
+use Rattle.outline.proofs.Laws.{cleaned-is}
+use Rattle.outline.proofs.Copies.{clean-is}
+-- `outline::clean_polygon` meets its contract. Assumes nothing.
+use borrow.Author.Needs.{needs}
+use Rattle.outline.proofs.clean_polygon.Statement.{statement}
+use Rattle.outline.proofs.clean_polygon.Tie as tie
+
+gather-requires : tie.Need-gather-requires
+gather-requires c κs = search needs
+
+stay-requires : tie.Need-stay-requires
+stay-requires c κs = search needs
+
+mul-clear-from : tie.Need-mul-clear-from
+mul-clear-from c = search needs
+
+clear-from-requires : tie.Need-clear-from-requires
+clear-from-requires c κs = search needs
+
+same-length : tie.Need-same-length
+same-length c = search needs
+
+returns : tie.Need-returns
+returns c =
+    let a = c .before .before .before .before .before .before .before .before .before .before .before .before .args in
+    let g = c .before .before .before .before .before .before .before .before .gather in
+    let s = c .before .before .before .before .stay in
+    let k : length (g .last .1 .0) ≡ length (now (a .out)) = g .kept .1 .0 in
+    clean-is (now (a .v)) (s .result) (g .last .1 .0) (now (a .out)) _ (omega (arith, g .ensures .1, s .ensures .1)) k
+    (cleaned-is (now (a .v)) (g .result) (s .result) (g .last .1 .0) (omega (arith, g .ensures .1)) (g .ensures .0) (s .ensures))
+    (c .before .before .clear-from .ensures)
+
+pub clean-polygon-spec : {M : Type 1} → statement M
+clean-polygon-spec =
+    tie.close
+    (tie.spec gather-requires stay-requires mul-clear-from clear-from-requires same-length returns)

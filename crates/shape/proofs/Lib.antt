@@ -1,0 +1,3 @@
+-- What the proofs of `shape` share.
+pub mod Loops
+pub mod Order

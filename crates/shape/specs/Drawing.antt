@@ -1,0 +1,158 @@
+-- A drawing, and document 01's refusals 3, 4, 1 and 2 on it ("Who can be told no"), in the order in which tessellation checks them.
+use Prim.Native.Nat.{ℕ, _/_, _%_}
+use mathlib.Core.Bool.{Bool, true, false, not, _&&_, _||_, cond}
+use mathlib.Core.List.{List, [], _∷_}
+use lib.ListN.{length, take}
+use lib.Dec.{ltb, eqb}
+use lib.Ieee.{Float}
+use lib.Ieee.Scale.{finite}
+use Rattle.math.specs.declared.Vec3.{Vec3}
+use Rattle.math.specs.Vec.{vFinite}
+use Rattle.refusal.specs.declared.Refusal.{Refusal}
+use Rattle.refusal.specs.declared.Refusal.the-variants.{Accepted, NotFinite, AngleTooLarge, TooManySegments, BadList}
+use Rattle.transform.specs.declared.TransformOp.{TransformOp}
+use Rattle.transform.specs.Angle.{within1000}
+use Rattle.transform.specs.Checks.{opsFinite, opsAnglesWithin}
+use Rattle.shape.specs.declared.Shape.{Shape}
+use Rattle.shape.specs.declared.Shape.the-variants.{Box, MultiBox, Sphere, SphericalShell, Cylinder, CylindricalShell, Polygon, LinPoly, RotPoly, Wire}
+use Rattle.shape.specs.declared.CoordSystem.{CoordSystem}
+use Rattle.shape.specs.declared.CoordSystem.the-variants.{Cartesian, Cylindrical}
+use Rattle.shape.specs.declared.OwnSystem.{OwnSystem}
+use Rattle.shape.specs.declared.OwnSystem.the-variants.{Inherited, Own}
+use Rattle.shape.specs.declared.TessellationOptions.{TessellationOptions}
+
+-- ---- systems
+
+-- Primitive::effective_cs
+unfoldable pub effectiveCs : OwnSystem → CoordSystem → CoordSystem
+effectiveCs Inherited default = default
+effectiveCs (Own cs) default = cs
+
+-- Primitive::shape_cs: a multi-box uses the default system, never its own
+unfoldable pub shapeCs : Shape → OwnSystem → CoordSystem → CoordSystem
+shapeCs (Box a b) own default = effectiveCs own default
+shapeCs MultiBox own default = default
+shapeCs (Sphere c r) own default = effectiveCs own default
+shapeCs (SphericalShell c r w) own default = effectiveCs own default
+shapeCs (Cylinder a b r) own default = effectiveCs own default
+shapeCs (CylindricalShell a b r w) own default = effectiveCs own default
+shapeCs (Polygon n e) own default = effectiveCs own default
+shapeCs (LinPoly n e l) own default = effectiveCs own default
+shapeCs (RotPoly n e a s t) own default = effectiveCs own default
+shapeCs (Wire r) own default = effectiveCs own default
+
+-- whether points are taken as (ρ, α, z)
+unfoldable pub cylindrical : CoordSystem → Bool
+cylindrical Cartesian = false
+cylindrical Cylindrical = true
+
+-- ---- refusal 3
+
+-- segments or rings above 1,024
+unfoldable pub tooManySegments : TessellationOptions → Bool
+tooManySegments o = ltb 1024 (o .segments) || ltb 1024 (o .«sphere_rings»)
+
+-- ---- refusal 4
+
+-- the floats of one item of the shape's list: a corner, a wire point, a box; 0 where the shape has no list
+unfoldable pub itemFloats : Shape → ℕ
+itemFloats (Box a b) = 0
+itemFloats MultiBox = 6
+itemFloats (Sphere c r) = 0
+itemFloats (SphericalShell c r w) = 0
+itemFloats (Cylinder a b r) = 0
+itemFloats (CylindricalShell a b r w) = 0
+itemFloats (Polygon n e) = 2
+itemFloats (LinPoly n e l) = 2
+itemFloats (RotPoly n e a s t) = 2
+itemFloats (Wire r) = 3
+
+-- the most items of a list: 512 corners of 2 floats, 256 wire points of 3, 256 boxes of 6
+unfoldable pub mostItems : ℕ → ℕ
+mostItems k = cond (eqb k 2) 512 256
+
+-- n floats are not whole items of k floats, or are too many items; a shape without a list does not read one
+unfoldable pub badList : ℕ → ℕ → Bool
+badList k n = not (eqb k 0) && (not (eqb (n % k) 0) || ltb (mostItems k) (n / k))
+
+-- ---- refusal 1
+
+-- the list that the shape reads
+unfoldable pub listOf : ℕ → List Float → List Float
+listOf k list = cond (eqb k 0) [] list
+
+-- every float is finite
+unfoldable pub allFinite : List Float → Bool
+allFinite [] = true
+allFinite (x ∷ xs) = finite x && allFinite xs
+
+-- every number of the shape itself is finite, those that tessellation does not use too
+unfoldable pub shapeFinite : Shape → Bool
+shapeFinite (Box a b) = vFinite a && vFinite b
+shapeFinite MultiBox = true
+shapeFinite (Sphere c r) = vFinite c && finite r
+shapeFinite (SphericalShell c r w) = vFinite c && finite r && finite w
+shapeFinite (Cylinder a b r) = vFinite a && vFinite b && finite r
+shapeFinite (CylindricalShell a b r w) = vFinite a && vFinite b && finite r && finite w
+shapeFinite (Polygon n e) = finite e
+shapeFinite (LinPoly n e l) = finite e && finite l
+shapeFinite (RotPoly n e a s t) = finite e && finite s && finite t
+shapeFinite (Wire r) = finite r
+
+-- ---- refusal 2
+
+-- an angle in radians does not exceed 1,000 in absolute value
+abbrev pub angleWithin : Float → Bool
+angleWithin x = within1000 (record { 0 = x })
+
+-- the angle of a point taken as cylindrical
+unfoldable pub pointWithin : Bool → Vec3 → Bool
+pointWithin cyl p = not cyl || angleWithin (p .y)
+
+-- the angles of the shape's own points and a rotated outline's start and stop angle
+unfoldable pub shapeWithin : Bool → Shape → Bool
+shapeWithin cyl (Box a b) = pointWithin cyl a && pointWithin cyl b
+shapeWithin cyl MultiBox = true
+shapeWithin cyl (Sphere c r) = pointWithin cyl c
+shapeWithin cyl (SphericalShell c r w) = pointWithin cyl c
+shapeWithin cyl (Cylinder a b r) = pointWithin cyl a && pointWithin cyl b
+shapeWithin cyl (CylindricalShell a b r w) = pointWithin cyl a && pointWithin cyl b
+shapeWithin cyl (Polygon n e) = true
+shapeWithin cyl (LinPoly n e l) = true
+shapeWithin cyl (RotPoly n e a s t) = angleWithin s && angleWithin t
+shapeWithin cyl (Wire r) = true
+
+-- the angles of points in a list, three floats a point
+unfoldable pub pointsWithin : List Float → Bool
+pointsWithin [] = true
+pointsWithin (x ∷ []) = true
+pointsWithin (x ∷ y ∷ []) = true
+pointsWithin (x ∷ y ∷ z ∷ r) = angleWithin y && pointsWithin r
+
+-- the angles of the list: those of wire points and of boxes, where they are taken as cylindrical; outlines are not converted
+unfoldable pub listWithin : Bool → ℕ → List Float → Bool
+listWithin cyl k list = not (cyl && eqb (k % 3) 0) || pointsWithin list
+
+-- ---- the refusals in their order
+
+abbrev pub pick : Bool → Refusal → Refusal → Refusal
+pick true r s = r
+pick false r s = s
+
+-- refusal 1 is due
+unfoldable pub numbersBad : Shape → List Float → List TransformOp → Bool
+numbersBad shape list ops = not (shapeFinite shape && allFinite (listOf (itemFloats shape) list) && opsFinite ops)
+
+-- refusal 2 is due
+unfoldable pub anglesBad : Bool → Shape → List Float → Bool → List TransformOp → Bool
+anglesBad cyl shape list degrees ops =
+    not (shapeWithin cyl shape && listWithin cyl (itemFloats shape) (listOf (itemFloats shape) list) && opsAnglesWithin degrees ops)
+
+-- 3, 4, 1, 2, in this order, on the shape, its list, its system, the options, and the first `count` operations
+unfoldable pub drawingRefusal : Shape → List Float → OwnSystem → CoordSystem → TessellationOptions → List TransformOp → ℕ → Bool → Refusal
+drawingRefusal shape list own default options ops count degrees =
+    pick (tooManySegments options) TooManySegments
+    (pick (badList (itemFloats shape) (length list) || ltb 16 count) BadList
+    (pick (numbersBad shape list (take count ops)) NotFinite
+    (pick (anglesBad (cylindrical (shapeCs shape own default)) shape list degrees (take count ops)) AngleTooLarge
+    Accepted)))

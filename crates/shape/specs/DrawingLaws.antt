@@ -1,0 +1,118 @@
+-- What is known of a drawing that refusals 3, 4, 1 and 2 let pass. Laws of the definitions in Drawing. Assumes nothing.
+use Prim.Native.Nat.{ℕ, zero, suc, _/_, _%_, _<_, _≤_}
+use mathlib.Core.Path.{_≡_, refl}
+use mathlib.Core.Bool.{Bool, true, false, not, _&&_, _||_}
+use mathlib.Core.List.{List, [], _∷_}
+use native.Mathlib.Nat.{not-suc-le-zero, le-of-suc-le-suc}
+use lib.ListN.{length, getD, take}
+use lib.Dec.{ltb, eqb}
+use lib.Ieee.{Float, nan}
+use lib.Ieee.Scale.{finite}
+use borrow.Author.Tests.{ltb-false, eqb-true, not-false}
+use Rattle.refusal.specs.declared.Refusal.{Refusal}
+use Rattle.refusal.specs.declared.Refusal.the-variants.{Accepted, NotFinite, AngleTooLarge, TooManySegments, BadList}
+use Rattle.transform.specs.declared.TransformOp.{TransformOp}
+use Rattle.transform.specs.Checks.{opsFinite, opsAnglesWithin}
+use Rattle.shape.specs.declared.Shape.{Shape}
+use Rattle.shape.specs.declared.CoordSystem.{CoordSystem}
+use Rattle.shape.specs.declared.OwnSystem.{OwnSystem}
+use Rattle.shape.specs.declared.TessellationOptions.{TessellationOptions}
+use Rattle.shape.specs.Drawing.{shapeCs, cylindrical, tooManySegments, itemFloats, mostItems, badList, listOf, allFinite, shapeFinite, shapeWithin, listWithin}
+use Rattle.shape.specs.Drawing.{pick, numbersBad, anglesBad, drawingRefusal}
+
+-- a drawing that passes; the angles of points count where `shapeCs` is cylindrical
+pub record AcceptedDrawing (shape : Shape) (list : List Float) (own : OwnSystem) (default : CoordSystem) (options : TessellationOptions) (ops : List TransformOp)
+    (count : ℕ) (degrees : Bool) : Type 0 where
+  pub segments-most : options .segments ≤ 1024
+  pub rings-most : options .«sphere_rings» ≤ 1024
+  pub list-whole : badList (itemFloats shape) (length list) ≡ false
+  pub count-most : count ≤ 16
+  pub shape-finite : shapeFinite shape ≡ true
+  pub list-finite : allFinite (listOf (itemFloats shape) list) ≡ true
+  pub ops-finite : opsFinite (take count ops) ≡ true
+  pub shape-within : shapeWithin (cylindrical (shapeCs shape own default)) shape ≡ true
+  pub list-within : listWithin (cylindrical (shapeCs shape own default)) (itemFloats shape) (listOf (itemFloats shape) list) ≡ true
+  pub ops-within : opsAnglesWithin degrees (take count ops) ≡ true
+
+-- ---- tests that did not refuse
+
+or-left : (a b : Bool) → (a || b) ≡ false → a ≡ false
+or-left true b e = e
+or-left false b e = refl
+
+or-right : (a b : Bool) → (a || b) ≡ false → b ≡ false
+or-right true b e = let no : true ≡ false = e in cc
+or-right false b e = e
+
+and-left : (a b : Bool) → (a && b) ≡ true → a ≡ true
+and-left true b e = refl
+and-left false b e = e
+
+and-right : (a b : Bool) → (a && b) ≡ true → b ≡ true
+and-right true b e = e
+and-right false b e = let no : false ≡ true = e in cc
+
+-- the refusals passed over one after the other
+record Passed (a b c d : Bool) : Type 0 where
+  three : a ≡ false
+  four : b ≡ false
+  one : c ≡ false
+  two : d ≡ false
+
+passed : (a b c d : Bool) → pick a TooManySegments (pick b BadList (pick c NotFinite (pick d AngleTooLarge Accepted))) ≡ Accepted → Passed a b c d
+passed true b c d e = let no : TooManySegments ≡ Accepted = e in record { three = cc; four = cc; one = cc; two = cc }
+passed false true c d e = let no : BadList ≡ Accepted = e in record { three = refl; four = cc; one = cc; two = cc }
+passed false false true d e = let no : NotFinite ≡ Accepted = e in record { three = refl; four = refl; one = cc; two = cc }
+passed false false false true e = let no : AngleTooLarge ≡ Accepted = e in record { three = refl; four = refl; one = refl; two = cc }
+passed false false false false e = record { three = refl; four = refl; one = refl; two = refl }
+
+-- no refusal 3, 4, 1 or 2: what holds of the drawing
+pub accepted : (shape : Shape) (list : List Float) (own : OwnSystem) (default : CoordSystem) (options : TessellationOptions) (ops : List TransformOp) (count : ℕ)
+    (degrees : Bool) → drawingRefusal shape list own default options ops count degrees ≡ Accepted → AcceptedDrawing shape list own default options ops count degrees
+unfolding drawingRefusal tooManySegments numbersBad anglesBad
+accepted shape list own default options ops count degrees e =
+    let cyl = cylindrical (shapeCs shape own default) in
+    let k = itemFloats shape in
+    let p = passed _ _ _ _ e in
+    let numbers = not-false _ (p .one) in
+    let angles = not-false _ (p .two) in
+    let numbers-front = and-left (shapeFinite shape && allFinite (listOf k list)) (opsFinite (take count ops)) numbers in
+    let angles-front = and-left (shapeWithin cyl shape && listWithin cyl k (listOf k list)) (opsAnglesWithin degrees (take count ops)) angles in
+    record {
+      segments-most = ltb-false 1024 (options .segments) (or-left _ (ltb 1024 (options .«sphere_rings»)) (p .three));
+      rings-most = ltb-false 1024 (options .«sphere_rings») (or-right (ltb 1024 (options .segments)) _ (p .three));
+      list-whole = or-left (badList k (length list)) (ltb 16 count) (p .four);
+      count-most = ltb-false 16 count (or-right (badList k (length list)) (ltb 16 count) (p .four));
+      shape-finite = and-left (shapeFinite shape) (allFinite (listOf k list)) numbers-front;
+      list-finite = and-right (shapeFinite shape) (allFinite (listOf k list)) numbers-front;
+      ops-finite = and-right (shapeFinite shape && allFinite (listOf k list)) (opsFinite (take count ops)) numbers;
+      shape-within = and-left (shapeWithin cyl shape) (listWithin cyl k (listOf k list)) angles-front;
+      list-within = and-right (shapeWithin cyl shape) (listWithin cyl k (listOf k list)) angles-front;
+      ops-within = and-right (shapeWithin cyl shape && listWithin cyl k (listOf k list)) (opsAnglesWithin degrees (take count ops)) angles;
+    }
+
+-- ---- whole lists
+
+-- a list that is not refused has whole corners, at most 512 of them
+pub corners-whole : (n : ℕ) → badList 2 n ≡ false → (n % 2 ≡ 0) × (n / 2 ≤ 512)
+unfolding badList mostItems
+corners-whole n e = (eqb-true (n % 2) 0 (not-false _ (or-left _ (ltb 512 (n / 2)) e)), ltb-false 512 (n / 2) (or-right (not (eqb (n % 2) 0)) _ e))
+
+-- and whole wire points, at most 256 of them
+pub points-whole : (n : ℕ) → badList 3 n ≡ false → (n % 3 ≡ 0) × (n / 3 ≤ 256)
+unfolding badList mostItems
+points-whole n e = (eqb-true (n % 3) 0 (not-false _ (or-left _ (ltb 256 (n / 3)) e)), ltb-false 256 (n / 3) (or-right (not (eqb (n % 3) 0)) _ e))
+
+-- and whole boxes, at most 256 of them
+pub boxes-whole : (n : ℕ) → badList 6 n ≡ false → (n % 6 ≡ 0) × (n / 6 ≤ 256)
+unfolding badList mostItems
+boxes-whole n e = (eqb-true (n % 6) 0 (not-false _ (or-left _ (ltb 256 (n / 6)) e)), ltb-false 256 (n / 6) (or-right (not (eqb (n % 6) 0)) _ e))
+
+-- ---- finite lists
+
+-- each float of a finite list is finite
+pub finite-at : (list : List Float) (i : ℕ) → i < length list → allFinite list ≡ true → finite (getD list i nan) ≡ true
+unfolding allFinite
+finite-at [] i h e = absurd (not-suc-le-zero h)
+finite-at (x ∷ xs) zero h e = and-left (finite x) (allFinite xs) e
+finite-at (x ∷ xs) (suc i) h e = finite-at xs i (le-of-suc-le-suc h) (and-right (finite x) (allFinite xs) e)

@@ -1,0 +1,3 @@
+-- What the contracts of `shape` cite, and laws of it.
+pub mod Drawing
+pub mod DrawingLaws

@@ -1,0 +1,39 @@
+// A shape's list: the floats of an item, and refusal 4 on the list.
+ghost use mathlib.Core.Path.{_≡_};
+ghost use Rattle.shape.specs.Drawing as Drawing;
+use crate::Shape;
+
+// The floats of one item of the shape's list, 0 where it has none.
+pub fn item_floats(shape: Shape) -> usize
+    ensures { λ r. ⌜ r ≡ Drawing.itemFloats shape ⌝ }
+{
+    match shape {
+        Shape::Box { .. } => 0,
+        Shape::MultiBox => 6,
+        Shape::Sphere { .. } => 0,
+        Shape::SphericalShell { .. } => 0,
+        Shape::Cylinder { .. } => 0,
+        Shape::CylindricalShell { .. } => 0,
+        Shape::Polygon { .. } => 2,
+        Shape::LinPoly { .. } => 2,
+        Shape::RotPoly { .. } => 2,
+        Shape::Wire { .. } => 3,
+    }
+}
+
+// The most items of a list whose items have k floats.
+fn most_items(k: usize) -> usize
+    ensures { λ r. ⌜ r ≡ Drawing.mostItems k ⌝ }
+{
+    if k == 2 { 512 } else { 256 }
+}
+
+// Refusal 4 on a list of n floats whose items have k floats.
+pub fn bad_list(k: usize, n: usize) -> bool
+    ensures { λ r. ⌜ r ≡ Drawing.badList k n ⌝ }
+{
+    if k == 0 {
+        return false;
+    }
+    (n % k != 0) | (most_items(k) < n / k)
+}

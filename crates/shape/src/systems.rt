@@ -1,0 +1,44 @@
+// The coordinate system in which a shape's points are taken: src/primitives/mod.rs.
+ghost use mathlib.Core.Path.{_≡_};
+ghost use Rattle.shape.specs.Drawing as Drawing;
+use crate::CoordSystem;
+use crate::OwnSystem;
+use crate::Shape;
+
+// Primitive::effective_cs.
+fn effective_cs(own: OwnSystem, default: CoordSystem) -> CoordSystem
+    ensures { λ r. ⌜ r ≡ Drawing.effectiveCs own default ⌝ }
+{
+    match own {
+        OwnSystem::Inherited => default,
+        OwnSystem::Own(cs) => cs,
+    }
+}
+
+// Primitive::shape_cs: a multi-box uses the default system.
+pub fn shape_cs(shape: Shape, own: OwnSystem, default: CoordSystem) -> CoordSystem
+    ensures { λ r. ⌜ r ≡ Drawing.shapeCs shape own default ⌝ }
+{
+    match shape {
+        Shape::MultiBox => default,
+        Shape::Box { .. } => effective_cs(own, default),
+        Shape::Sphere { .. } => effective_cs(own, default),
+        Shape::SphericalShell { .. } => effective_cs(own, default),
+        Shape::Cylinder { .. } => effective_cs(own, default),
+        Shape::CylindricalShell { .. } => effective_cs(own, default),
+        Shape::Polygon { .. } => effective_cs(own, default),
+        Shape::LinPoly { .. } => effective_cs(own, default),
+        Shape::RotPoly { .. } => effective_cs(own, default),
+        Shape::Wire { .. } => effective_cs(own, default),
+    }
+}
+
+// Whether a system is the cylindrical one.
+pub fn is_cylindrical(cs: CoordSystem) -> bool
+    ensures { λ r. ⌜ r ≡ Drawing.cylindrical cs ⌝ }
+{
+    match cs {
+        CoordSystem::Cartesian => false,
+        CoordSystem::Cylindrical => true,
+    }
+}

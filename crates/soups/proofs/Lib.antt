@@ -1,0 +1,18 @@
+-- The laws of the soups, and the theorems that they are balanced.
+pub mod Points
+pub mod Every
+pub mod Closes
+pub mod Unequal
+pub mod Coord
+pub mod ParamBoxBalanced
+pub mod Maps
+pub mod SphereBalanced
+pub mod ArcLaws
+pub mod CylinderBalanced
+pub mod BoxBalanced
+pub mod PartsBalanced
+pub mod Sides
+pub mod OutlineBalanced
+pub mod SurfaceGrids
+pub mod PolygonsBalanced
+pub mod Examples

@@ -1,0 +1,12 @@
+-- The definitions of each solid's soup, after src/tessellate.rs.
+pub mod Arc
+pub mod Grid
+pub mod ParamBox
+pub mod Coords
+pub mod Sphere
+pub mod Cylinder
+pub mod Boxes
+pub mod Wire
+pub mod Outline
+pub mod Polygons
+pub mod Surface
