@@ -25,12 +25,14 @@ n3 = fin false 3 (pos 0)
 
 -- the square (0,0) (1,0) (1,1) (0,1): triangles 3 0 1 and 1 2 3, one removed
 pub square : triangulatePolygon (n0 ∷ n0 ∷ n1 ∷ n0 ∷ n1 ∷ n1 ∷ n0 ∷ n1 ∷ []) ≡ record { left = []; triangles = 3 ∷ 0 ∷ 1 ∷ 1 ∷ 2 ∷ 3 ∷ []; removed = 1 }
-unfolding triangulatePolygon triangulated pickState passes finished start pass byFound fanned dropped clipped without firstEar firstFlat isEar isFlat earAt turning blocked blocks point same eq within cross tolerance scale maximum absolute largest isNan any seek pickFound counting before after fan fans sub mul neg add sum round size span climb units odd lt le ofBits ofFields trailingZeros
+unfolding triangulatePolygon triangulated pickState passes finished start pass byFound fanned dropped clipped without firstEar firstFlat isEar isFlat earAt turning blocked blocks point same eq within cross
+    tolerance scale maximum absolute largest isNan any seek pickFound counting before after fan fans sub mul neg add sum round size span climb units odd lt le ofBits ofFields trailingZeros
 square = refl
 
 -- (0,0) (1,0) (2,0) (3,0): no triangles, one removed
 pub line : triangulatePolygon (n0 ∷ n0 ∷ n1 ∷ n0 ∷ n2 ∷ n0 ∷ n3 ∷ n0 ∷ []) ≡ record { left = 1 ∷ 2 ∷ 3 ∷ []; triangles = []; removed = 1 }
-unfolding triangulatePolygon triangulated pickState passes finished start pass byFound fanned dropped clipped without firstEar firstFlat isEar isFlat earAt turning blocked blocks point same eq within cross tolerance scale maximum absolute largest isNan any seek pickFound counting before after fan fans sub mul neg add sum round size span climb units odd lt le ofBits ofFields trailingZeros
+unfolding triangulatePolygon triangulated pickState passes finished start pass byFound fanned dropped clipped without firstEar firstFlat isEar isFlat earAt turning blocked blocks point same eq within cross
+    tolerance scale maximum absolute largest isNan any seek pickFound counting before after fan fans sub mul neg add sum round size span climb units odd lt le ofBits ofFields trailingZeros
 line = refl
 
 -- two corners: none

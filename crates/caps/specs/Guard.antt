@@ -22,7 +22,9 @@ use Rattle.caps.specs.Caps.{counting-length}
 -- ---- a pass removes a corner, or ends
 
 pass-spent-flat : (v : List Float) (e : Float) (s : State) (f : Found) → firstFlat v e (s .left) ≡ f → 3 < length (s .left)
-    → (byFound f (dropped s) (fanned s) .removed + 3 ≤ s .removed + length (s .left)) × (byFound f (dropped s) (fanned s) .removed + length (byFound f (dropped s) (fanned s) .left) ≤ s .removed + length (s .left)) × (length (byFound f (dropped s) (fanned s) .left) < length (s .left))
+    → (byFound f (dropped s) (fanned s) .removed + 3 ≤ s .removed + length (s .left)) ×
+    (byFound f (dropped s) (fanned s) .removed + length (byFound f (dropped s) (fanned s) .left) ≤ s .removed + length (s .left)) ×
+    (length (byFound f (dropped s) (fanned s) .left) < length (s .left))
 unfolding byFound firstFlat dropped fanned
 pass-spent-flat v e s (At k) h h3 =
     let b : k < length (s .left) = omega (arith, seek-below (isFlat v e (s .left)) (length (s .left)) 0 k h) in
@@ -41,7 +43,8 @@ pass-spent-ear v e s (At k) h h3 =
 pass-spent-ear v e s Nothing h h3 = pass-spent-flat v e s (firstFlat v e (s .left)) refl h3
 
 pass-spent : (v : List Float) (e : Float) (s : State) → 3 < length (s .left)
-    → (pass v e s .removed + 3 ≤ s .removed + length (s .left)) × (pass v e s .removed + length (pass v e s .left) ≤ s .removed + length (s .left)) × (length (pass v e s .left) < length (s .left))
+    → (pass v e s .removed + 3 ≤ s .removed + length (s .left)) × (pass v e s .removed + length (pass v e s .left) ≤ s .removed + length (s .left)) ×
+    (length (pass v e s .left) < length (s .left))
 unfolding pass
 pass-spent v e s h3 = pass-spent-ear v e s (firstEar v e (s .left)) refl h3
 

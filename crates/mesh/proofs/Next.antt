@@ -15,8 +15,8 @@ use Rattle.math.specs.Vec.{zeroV}
 use Rattle.balance.specs.Soup.{Tri, mapTri}
 use Rattle.balance.specs.Buffer.{tris}
 use Rattle.trimesh.specs.Mesh.{Mesh}
-use Rattle.trimesh.specs.Slices.{points}
-use Rattle.trimesh.specs.SliceLaws.{tris-drop, points-tris, length-tris, vecOf}
+use Rattle.trimesh.specs.Slices.{points, vecOf}
+use Rattle.trimesh.specs.SliceLaws.{tris-drop, points-tris}
 use Rattle.trimesh.specs.Measures.{sumOf, including, triangleSoup}
 use Rattle.mesh.specs.State.{State, meshOf, every, Sound}
 use Rattle.mesh.specs.Triples.{tripleAt, vertexAt, cornersAt}

@@ -29,11 +29,11 @@ use Rattle.mesh.proofs.Stored.{appended-vertices, appended-triangles}
 module _ (q : Refusal) (s t : State) (r : Refusal) (e : r ≡ q) where
   kept : isAccepted r ≡ false → edited q s t .state ≡ s
   unfolding edited
-  kept h = rw (sym (ap {B = Bool} isAccepted e) ∙ h)
+  kept h = ap {B = State} (λ (b : Bool). cond b t s) (sym (ap {B = Bool} isAccepted e) ∙ h)
 
   done : isAccepted r ≡ true → edited q s t .state ≡ t
   unfolding edited
-  done h = rw (sym (ap {B = Bool} isAccepted e) ∙ h)
+  done h = ap {B = State} (λ (b : Bool). cond b t s) (sym (ap {B = Bool} isAccepted e) ∙ h)
 
   pub gives-kept : isAccepted r ≡ false → Gives (edited q s t) (record { refusal = r; mesh = s .mesh }) (s .vertices) (s .triangles)
   unfolding edited

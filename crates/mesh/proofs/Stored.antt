@@ -14,8 +14,8 @@ use Rattle.balance.specs.Soup.{flip as flipTri}
 use Rattle.balance.specs.Buffer.{flat, tris, flat-append}
 use Rattle.trimesh.specs.Mesh.{Mesh, append, flip}
 use Rattle.trimesh.specs.Edits.{moved}
-use Rattle.trimesh.specs.Slices.{flatV, points}
-use Rattle.trimesh.specs.SliceLaws.{triOf, vecOf, flat-tris, flat-map, length-tris, points-tris, flatV-flat, flatV-append, flatV-points, length-points}
+use Rattle.trimesh.specs.Slices.{flatV, points, triOf, vecOf}
+use Rattle.trimesh.specs.SliceLaws.{flat-tris, flat-map, length-tris, points-tris, flatV-flat, flatV-append, flatV-points, length-points}
 use Rattle.mesh.specs.declared.TriMesh.{TriMesh}
 use Rattle.mesh.specs.State.{State, state, meshOf, stored, Sound}
 use Rattle.mesh.specs.Triples.{eachTo, movedTriple}

@@ -7,7 +7,7 @@ use Rattle.math.specs.declared.Vec3.{Vec3}
 use Rattle.math.specs.declared.Mat4.{Mat4}
 use Rattle.math.specs.Mat.{transformPoint}
 use Rattle.balance.specs.Soup.{Tri, mapTri}
-use Rattle.trimesh.specs.SliceLaws.{triOf, vecOf}
+use Rattle.trimesh.specs.Slices.{triOf, vecOf}
 use Rattle.balance.specs.Buffer.{flat, tris}
 
 -- the first n triples of a list, each replaced, and the rest as it was

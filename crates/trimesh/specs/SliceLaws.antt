@@ -9,7 +9,7 @@ use lib.Ieee.{Float}
 use Rattle.math.specs.declared.Vec3.{Vec3}
 use Rattle.balance.specs.Soup.{Tri, mapTri}
 use Rattle.balance.specs.Buffer.{flat, tris, tris-flat, length-flat}
-use Rattle.trimesh.specs.Slices.{coords, flatV, points}
+use Rattle.trimesh.specs.Slices.{coords, flatV, points, triOf, vecOf}
 
 next : (i : ℕ) → 3 * suc i ≡ suc (suc (suc (3 * i)))
 next i = omega arith
@@ -46,13 +46,6 @@ module _ {P : Type 0} where
 pub flat-map : {P Q : Type 0} (f : P → Q) (ts : List (Tri P)) → flat (map (mapTri f) ts) ≡ map f (flat ts)
 flat-map f [] = refl
 flat-map {Q = Q} f (t ∷ ts) = ap {B = List Q} (λ q. f (t .0) ∷ f (t .1) ∷ f (t .2) ∷ q) (flat-map f ts)
-
--- a vertex as three floats
-abbrev pub triOf : Vec3 → Tri Float
-triOf p = (p .x, p .y, p .z)
-
-abbrev pub vecOf : Tri Float → Vec3
-vecOf t = record { x = t .0; y = t .1; z = t .2 }
 
 pub points-tris : (l : List Float) → points l ≡ map vecOf (tris l)
 points-tris [] = refl

@@ -2,6 +2,7 @@
 use mathlib.Core.List.{List, [], _∷_, _++_}
 use lib.Ieee.{Float}
 use Rattle.math.specs.declared.Vec3.{Vec3}
+use Rattle.balance.specs.Soup.{Tri}
 
 -- the three floats of a vertex
 abbrev pub coords : Vec3 → List Float
@@ -18,3 +19,10 @@ points [] = []
 points (x ∷ []) = []
 points (x ∷ y ∷ []) = []
 points (x ∷ y ∷ z ∷ r) = record { x = x; y = y; z = z } ∷ points r
+
+-- a vertex as a triple of floats, and back
+abbrev pub triOf : Vec3 → Tri Float
+triOf p = (p .x, p .y, p .z)
+
+abbrev pub vecOf : Tri Float → Vec3
+vecOf t = record { x = t .0; y = t .1; z = t .2 }

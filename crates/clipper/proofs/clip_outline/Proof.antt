@@ -37,7 +37,8 @@ returns-2 c =
     let a = c .before .before .before .before .before .before .before .before .before .args in
     let v = now (a .list) in
     let m = length (now (a .triangles)) in
-    outcome-refused (c .refused2 .result) _ m _ _ (c .before .before .before .before .before .clear .ensures) (c .refused2 .ensures m) (outcome-odd v m (c .before .before .if1 .left) (c .before .if2 .taken))
+    outcome-refused (c .refused2 .result) _ m _ _ (c .before .before .before .before .before .clear .ensures) (c .refused2 .ensures m)
+    (outcome-odd v m (c .before .before .if1 .left) (c .before .if2 .taken))
 
 all-finite-requires : tie.Need-all-finite-requires
 all-finite-requires c κs = search needs
@@ -54,7 +55,8 @@ returns-3 c =
     let v = now (a .list) in
     let m = length (now (a .triangles)) in
     outcome-refused (c .refused3 .result) _ m _ _ (c .before .before .before .before .before .before .before .clear .ensures) (c .refused3 .ensures m)
-    (outcome-infinite v m (c .before .before .before .before .if1 .left) (c .before .before .before .if2 .left) (sym (c .before .before .all-finite .ensures) ∙ not-true _ (c .before .if3 .taken)))
+    (outcome-infinite v m (c .before .before .before .before .if1 .left) (c .before .before .before .if2 .left)
+    (sym (c .before .before .all-finite .ensures) ∙ not-true _ (c .before .if3 .taken)))
 
 triangulate-polygon-requires : tie.Need-triangulate-polygon-requires
 triangulate-polygon-requires c κs = search needs
@@ -70,10 +72,12 @@ returns-4 c =
     let a = c .before .before .before .before .before .before .before .before .before .before .before .before .before .before .before .args in
     let v = now (a .list) in
     let m = length (now (a .triangles)) in
-    let l : length (c .before .before .before .before .before .before .before .before .before .before .before .clear .last .0) ≡ m = c .before .before .before .before .before .before .before .before .before .before .before .clear .kept .0 in
+    let cleared = c .before .before .before .before .before .before .before .before .before .before .before .clear in
+    let l : length (cleared .last .0) ≡ m = cleared .kept .0 in
     let all = sym (c .before .before .before .before .before .before .all-finite .ensures) ∙ not-false _ (c .before .before .before .before .before .if3 .left) in
     outcome-refused (c .refused4 .result) _ m _ _ (c .before .before .before .before .before .before .before .before .before .before .before .clear .ensures) (c .refused4 .ensures m)
-    (outcome-room v m (c .before .before .before .before .before .before .before .before .if1 .left) (c .before .before .before .before .before .before .before .if2 .left) all _ _ _ (c .before .before .before .triangulate-polygon .ensures .0) (omega (arith, c .before .if4 .taken)))
+    (outcome-room v m (c .before .before .before .before .before .before .before .before .if1 .left) (c .before .before .before .before .before .before .before .if2 .left) all _ _ _
+    (c .before .before .before .triangulate-polygon .ensures .0) (omega (arith, c .before .if4 .taken)))
 
 slice-aggregate-copy : tie.Need-slice-aggregate-copy
 slice-aggregate-copy c = sym (c .before .before .before .before .triangulate-polygon .ensures .2)
@@ -94,9 +98,14 @@ returns-5 c =
     let a = c .before .before .before .before .before .before .before .before .before .before .before .before .before .before .before .before .before .before .before .before .args in
     let v = now (a .list) in
     let m = length (now (a .triangles)) in
-    let l : length (c .before .before .before .before .before .before .before .before .before .before .before .before .before .before .before .before .clear .last .0) ≡ m = c .before .before .before .before .before .before .before .before .before .before .before .before .before .before .before .before .clear .kept .0 in
-    let all = sym (c .before .before .before .before .before .before .before .before .before .before .before .all-finite .ensures) ∙ not-false _ (c .before .before .before .before .before .before .before .before .before .before .if3 .left) in
-    outcome-done v m (c .before .before .before .before .before .before .before .before .before .before .before .before .before .if1 .left) (c .before .before .before .before .before .before .before .before .before .before .before .before .if2 .left) all _ _ _ (c .before .before .before .before .before .before .before .before .triangulate-polygon .ensures .0) _ _ (omega (arith, c .before .before .before .before .before .before .if4 .left)) (c .before .before .before .before .before .before .before .before .before .before .before .before .before .before .before .before .clear .ensures) (c .before .before .copy .ensures)
+    let cleared = c .before .before .before .before .before .before .before .before .before .before .before .before .before .before .before .before .clear in
+    let l : length (cleared .last .0) ≡ m = cleared .kept .0 in
+    let all = sym (c .before .before .before .before .before .before .before .before .before .before .before .all-finite .ensures) ∙ not-false _
+    (c .before .before .before .before .before .before .before .before .before .before .if3 .left) in
+    outcome-done v m (c .before .before .before .before .before .before .before .before .before .before .before .before .before .if1 .left)
+    (c .before .before .before .before .before .before .before .before .before .before .before .before .if2 .left) all _ _ _
+    (c .before .before .before .before .before .before .before .before .triangulate-polygon .ensures .0) _ _ (omega (arith, c .before .before .before .before .before .before .if4 .left))
+    (c .before .before .before .before .before .before .before .before .before .before .before .before .before .before .before .before .clear .ensures) (c .before .before .copy .ensures)
 
 pub clip-outline-spec : {M : Type 1} → statement M
 clip-outline-spec =

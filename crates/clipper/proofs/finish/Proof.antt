@@ -45,8 +45,13 @@ returns c =
     let d = c .before .before .before .before .before .before .before .before .before .before .before .before .before .before .before .before in
     let a = d .args in
     let v = now (a .corners) in
-    let x : c .before .before .before .before .before .cross .result ≡ cross (point v (getD (a .w .left .at) 0 0)) (point v (getD (a .w .left .at) 1 0)) (point v (getD (a .w .left .at) 2 0)) = cc in
-    (omega arith, triangle-gives v (a .e) (a .w) (now (a .out)) _ _ (d .pre .1) (c .before .before .before .before .before .before .before .before .before .before .before .before .if1 .taken) (c .before .before .put .kept .0) x (c .before .before .before .before .if2 .taken) (c .before .before .put .ensures))
+    let x : c .before .before .before .before .before .cross .result ≡ cross (point v (getD (a .w .left .at) 0 0)) (point v (getD (a .w .left .at) 1 0))
+    (point v (getD (a .w .left .at) 2 0)) = cc in (
+      omega arith,
+      triangle-gives v (a .e) (a .w) (now (a .out)) _ _ (d .pre .1)
+          (c .before .before .before .before .before .before .before .before .before .before .before .before .if1 .taken) (c .before .before .put .kept .0) x
+          (c .before .before .before .before .if2 .taken) (c .before .before .put .ensures),
+    )
 
 returns-2 : tie.Need-returns-2
 returns-2 c =

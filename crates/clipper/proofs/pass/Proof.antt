@@ -58,7 +58,8 @@ returns-2 : tie.Need-returns-2
 returns-2 c =
     let d = c .before .before .before .before .before .before .before .before .before .before .before .before .before .before in
     let a = d .args in
-    let ear = sym (c .before .before .before .before .before .before .before .before .before .first-ear .ensures) ∙ c .before .before .before .before .before .before .before .enum-told .given .1 in
+    let ear = sym (c .before .before .before .before .before .before .before .before .before .first-ear .ensures)
+    ∙ c .before .before .before .before .before .before .before .enum-told .given .1 in
     let flat = sym (c .before .before .before .before .first-flat .ensures) ∙ c .before .before .k2 .given .1 in
     goes-to (pass-flat (now (a .corners)) (a .e) (stateOf (a .t3) (now (a .out))) _ ear flat) (c .drop-flat .ensures (now (a .corners)) (now (a .out)) (d .pre .1))
 
@@ -68,7 +69,8 @@ same-length-2 c = search needs
 returns-3 : tie.Need-returns-3
 returns-3 c =
     let a = c .before .before .before .before .before .before .before .before .before .before .before .before .before .before .before .before .args in
-    let ear = sym (c .before .before .before .before .before .before .before .before .before .before .before .first-ear .ensures) ∙ c .before .before .before .before .before .before .before .before .before .enum-told .given .1 in
+    let ear = sym (c .before .before .before .before .before .before .before .before .before .before .before .first-ear .ensures)
+    ∙ c .before .before .before .before .before .before .before .before .before .enum-told .given .1 in
     let flat = sym (c .before .before .before .before .before .before .first-flat .ensures) ∙ c .before .before .before .before .enum-told2 .given .1 in
     goes-to (pass-fan (now (a .corners)) (a .e) (stateOf (a .t3) (now (a .out))) ear flat) (c .before .before .fan-rest .ensures)
 

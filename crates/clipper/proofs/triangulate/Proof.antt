@@ -67,7 +67,8 @@ loop-again c =
       g .fit,
       c .before .before .pass .kept .1 .1 .1 .0 ∙ l .inv .1,
       g .rest ∙ drop-more (3 * l .w .triangles) (3 * c .before .before .pass .result .triangles) (l .out) (now (a .out)) (omega (arith, g .grows)) (l .inv .2),
-      reaches-next v _ (stateOf (l .w) (l .out)) _ _ (l .w .left .n) _ (sym (left-length v (l .w .left .at) (l .w .left .n) (l .inv .0 .inside))) (c .before .before .before .before .if2 .taken) (g .falls) (g .state) (l .inv .3),
+      reaches-next v _ (stateOf (l .w) (l .out)) _ _ (l .w .left .n) _ (sym (left-length v (l .w .left .at) (l .w .left .n) (l .inv .0 .inside)))
+          (c .before .before .before .before .if2 .taken) (g .falls) (g .state) (l .inv .3),
     )
 
 finish-requires : tie.Need-finish-requires Inv-loop μ-loop
@@ -88,7 +89,9 @@ returns-2 c =
     reaches-end v _ (stateOf (l .w) (l .out)) _ _ (omega (arith, c .before .before .before .before .if2 .left)) (l .inv .3) in
     let f = c .before .before .finish in
     let long : length (f .last .1 .1 .1 .0) ≡ 1536 = f .kept .1 .1 .1 .0 ∙ l .inv .1 ∙ d .pre .1 in (
-      gives-from _ _ _ (l .w .triangles) (now (a .out)) (l .out) _ (triangulate-is v _ _ (c .before .before .before .before .before .before .before .before .before .if1 .left) (c .before .before .before .before .before .before .before .before .tolerance .ensures) s) (f .ensures .0) (l .inv .2) (f .ensures .1),
+      gives-from _ _ _ (l .w .triangles) (now (a .out)) (l .out) _
+          (triangulate-is v _ _ (c .before .before .before .before .before .before .before .before .before .if1 .left)
+          (c .before .before .before .before .before .before .before .before .tolerance .ensures) s) (f .ensures .0) (l .inv .2) (f .ensures .1),
       omega (arith, gives-short (f .ensures .1)),
       long,
     )

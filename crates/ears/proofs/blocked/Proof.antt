@@ -32,7 +32,8 @@ returns : tie.Need-returns Inv-loop μ-loop
 returns c =
     let d = c .before .before .before .before .before .before in
     let l = c .before .before .before .before .loop in
-    any-here (now (d .args .corners)) (now (d .args .at)) (d .args .n) (d .pre) _ (l .q) (c .before .before .before .loop-test .taken) (sym (c .before .blocks2 .ensures) ∙ c .if1 .taken) ∙ l .inv .1
+    any-here (now (d .args .corners)) (now (d .args .at)) (d .args .n) (d .pre) _ (l .q) (c .before .before .before .loop-test .taken) (sym (c .before .blocks2 .ensures) ∙ c .if1 .taken)
+    ∙ l .inv .1
 
 add-q : tie.Need-add-q Inv-loop μ-loop
 add-q c = omega (arith, c .before .before .before .before .before .before .pre .small)
@@ -43,8 +44,11 @@ loop-less c = omega arith
 loop-again : tie.Need-loop-again Inv-loop μ-loop
 loop-again c =
     let d = c .before .before .before .before .before .before in
-    let l = c .before .before .before .before .loop in
-    (omega arith, any-on (now (d .args .corners)) (now (d .args .at)) (d .args .n) (d .pre) _ (l .q) (c .before .before .before .loop-test .taken) (sym (c .before .blocks2 .ensures) ∙ c .if1 .left) ∙ l .inv .1)
+    let l = c .before .before .before .before .loop in (
+      omega arith,
+      any-on (now (d .args .corners)) (now (d .args .at)) (d .args .n) (d .pre) _ (l .q) (c .before .before .before .loop-test .taken)
+          (sym (c .before .blocks2 .ensures) ∙ c .if1 .left) ∙ l .inv .1,
+    )
 
 returns-2 : tie.Need-returns-2 Inv-loop μ-loop
 returns-2 c =

@@ -58,7 +58,8 @@ returns-6 c =
     let v = now (a .corners) in
     let sa : same (point v (a .o)) (a .t .a) ≡ false = cc in
     let sb : same (point v (a .o)) (a .t .b) ≡ true = cc in
-    blocks-b v (a .e) (a .t) (a .o) (c .before .before .before .before .before .before .before .before .if2 .left) (c .before .before .before .before .before .before .if3 .left) (c .before .before .before .before .if4 .left) sa sb
+    blocks-b v (a .e) (a .t) (a .o) (c .before .before .before .before .before .before .before .before .if2 .left) (c .before .before .before .before .before .before .if3 .left)
+    (c .before .before .before .before .if4 .left) sa sb
 
 same-requires-3 : tie.Need-same-requires-3
 same-requires-3 c κs = search needs
@@ -70,7 +71,8 @@ returns-7 c =
     let sa : same (point v (a .o)) (a .t .a) ≡ false = cc in
     let sb : same (point v (a .o)) (a .t .b) ≡ false = cc in
     let sc : same (point v (a .o)) (a .t .c) ≡ true = cc in
-    blocks-c v (a .e) (a .t) (a .o) (c .before .before .before .before .before .before .before .before .before .before .if2 .left) (c .before .before .before .before .before .before .before .before .if3 .left) (c .before .before .before .before .before .before .if4 .left) sa sb sc
+    blocks-c v (a .e) (a .t) (a .o) (c .before .before .before .before .before .before .before .before .before .before .if2 .left)
+    (c .before .before .before .before .before .before .before .before .if3 .left) (c .before .before .before .before .before .before .if4 .left) sa sb sc
 
 returns-8 : tie.Need-returns-8
 returns-8 c =
@@ -79,9 +81,11 @@ returns-8 c =
     let sa : same (point v (a .o)) (a .t .a) ≡ false = cc in
     let sb : same (point v (a .o)) (a .t .b) ≡ false = cc in
     let sc : same (point v (a .o)) (a .t .c) ≡ false = cc in
-    let into : c .before .before .before .before .before .before .before .before .before .before .before .before .before .within .result ≡ true = not-false _ (c .before .before .before .before .before .before .before .before .before .before .before .before .if1 .left) in
+    let into : c .before .before .before .before .before .before .before .before .before .before .before .before .before .within .result ≡ true = not-false _
+    (c .before .before .before .before .before .before .before .before .before .before .before .before .if1 .left) in
     let w : within (a .e) (a .t .a) (a .t .b) (a .t .c) (point v (a .o)) ≡ true = cc in
-    blocks-all v (a .e) (a .t) (a .o) (c .before .before .before .before .before .before .before .before .before .before .if2 .left) (c .before .before .before .before .before .before .before .before .if3 .left) (c .before .before .before .before .before .before .if4 .left) sa sb sc w
+    blocks-all v (a .e) (a .t) (a .o) (c .before .before .before .before .before .before .before .before .before .before .if2 .left)
+    (c .before .before .before .before .before .before .before .before .if3 .left) (c .before .before .before .before .before .before .if4 .left) sa sb sc w
 
 pub blocks-spec : {M : Type 1} → statement M
 blocks-spec =

@@ -32,7 +32,8 @@ returns c =
     let d = c .before .before .before .before .before .before .before in
     let l = c .before .before .before .before .before .loop in
     let p = isFlat (now (d .args .corners)) (d .args .e) (take (d .args .n) (now (d .args .at))) in
-    sym (seek-here p (d .args .n) (l .j) (c .before .before .before .before .loop-test .taken) (sym (isFlat-is _ _ _ _ _ (c .before .before .before .ear-at .ensures) _ (c .before .before .cross .ensures) (c .before .abs .ensures)) ∙ c .if1 .taken)) ∙ l .inv .1
+    sym (seek-here p (d .args .n) (l .j) (c .before .before .before .before .loop-test .taken)
+    (sym (isFlat-is _ _ _ _ _ (c .before .before .before .ear-at .ensures) _ (c .before .before .cross .ensures) (c .before .abs .ensures)) ∙ c .if1 .taken)) ∙ l .inv .1
 
 add-j : tie.Need-add-j Inv-loop μ-loop
 add-j c = omega (arith, c .before .before .before .before .before .before .before .pre .small)
@@ -44,8 +45,11 @@ loop-again : tie.Need-loop-again Inv-loop μ-loop
 loop-again c =
     let d = c .before .before .before .before .before .before .before in
     let l = c .before .before .before .before .before .loop in
-    let p = isFlat (now (d .args .corners)) (d .args .e) (take (d .args .n) (now (d .args .at))) in
-    (omega arith, seek-on p (d .args .n) (l .j) (c .before .before .before .before .loop-test .taken) (sym (isFlat-is _ _ _ _ _ (c .before .before .before .ear-at .ensures) _ (c .before .before .cross .ensures) (c .before .abs .ensures)) ∙ c .if1 .left) ∙ l .inv .1)
+    let p = isFlat (now (d .args .corners)) (d .args .e) (take (d .args .n) (now (d .args .at))) in (
+      omega arith,
+      seek-on p (d .args .n) (l .j) (c .before .before .before .before .loop-test .taken)
+          (sym (isFlat-is _ _ _ _ _ (c .before .before .before .ear-at .ensures) _ (c .before .before .cross .ensures) (c .before .abs .ensures)) ∙ c .if1 .left) ∙ l .inv .1,
+    )
 
 returns-2 : tie.Need-returns-2 Inv-loop μ-loop
 returns-2 c =

@@ -15,7 +15,8 @@ cross-requires-3 c κs = search needs
 
 returns : tie.Need-returns
 returns c =
-    within-third _ _ _ _ _ (c .before .before .before .before .cross .ensures) (c .before .before .cross2 .ensures) (c .cross3 .ensures) (c .before .before .before .if1 .taken) (c .before .if2 .taken)
+    within-third _ _ _ _ _ (c .before .before .before .before .cross .ensures) (c .before .before .cross2 .ensures) (c .cross3 .ensures) (c .before .before .before .if1 .taken)
+    (c .before .if2 .taken)
 
 returns-2 : tie.Need-returns-2
 returns-2 c = within-second _ _ _ _ _ (c .before .before .before .cross .ensures) (c .before .cross2 .ensures) (c .before .before .if1 .taken) (c .if2 .left)

@@ -41,7 +41,8 @@ returns c =
     let o = c .before .before .before .before .before .before .clean-polygon in
     let a = c .before .before .before .before .before .before .before .before .before .args in
     let h : length (now (a .out)) ≡ 1024 = omega arith in
-    ccw-turned (now (a .v)) (o .result) _ _ (o .ensures .0) (o .ensures .1 ∙ ap (padded (cleanPolygon (now (a .v)))) h) (c .before .before .before .signed-area .ensures) _ (c .before .before .if1 .taken) (c .copy-reversed .ensures)
+    ccw-turned (now (a .v)) (o .result) _ _ (o .ensures .0) (o .ensures .1 ∙ ap (padded (cleanPolygon (now (a .v)))) h) (c .before .before .before .signed-area .ensures) _
+    (c .before .before .if1 .taken) (c .copy-reversed .ensures)
 
 returns-2 : tie.Need-returns-2
 returns-2 c =

@@ -41,7 +41,8 @@ loop-again c =
     let l = c .before .before .before .before .before .before .loop in
     let p = c .before .before .before .before .corner in (
       omega arith,
-      reversing-next (now (a .v)) (l .i) (p .result) (now (a .out)) (l .out) _ (omega arith) (p .ensures) (c .before .before .put-corner .kept .0) (l .inv .1) (c .before .before .put-corner .ensures),
+      reversing-next (now (a .v)) (l .i) (p .result) (now (a .out)) (l .out) _ (omega arith) (p .ensures) (c .before .before .put-corner .kept .0) (l .inv .1)
+          (c .before .before .put-corner .ensures),
     )
 
 same-length : tie.Need-same-length Inv-loop μ-loop

@@ -37,7 +37,8 @@ returns : tie.Need-returns
 returns c =
     let a = c .before .before .before .before .before .before .before .before .args in
     let k = c .before .before .before .before .copy-swapped in
-    prepared-is _ _ _ _ (prepared-swapped (now (a .list)) _ (a .swap) (c .before .before .before .before .before .before .if1 .taken) (copied-take (now (a .list)) (k .result) _ _ (k .ensures))) (c .ccw-polygon .ensures)
+    prepared-is _ _ _ _ (prepared-swapped (now (a .list)) _ (a .swap) (c .before .before .before .before .before .before .if1 .taken)
+    (copied-take (now (a .list)) (k .result) _ _ (k .ensures))) (c .ccw-polygon .ensures)
 
 ccw-polygon-requires-2 : tie.Need-ccw-polygon-requires-2
 ccw-polygon-requires-2 c κs = search needs

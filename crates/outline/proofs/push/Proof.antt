@@ -25,7 +25,8 @@ same-length-2 c = search needs
 
 returns-2 : tie.Need-returns-2
 returns-2 c =
-    let a = c .before .before .before .before .before .before .before .before .args in grew (a .m) (a .p) (now (a .out)) _ (c .before .before .before .before .before .ends-in .ensures) (c .before .before .before .before .if1 .left) (c .before .before .put-corner .ensures)
+    let a = c .before .before .before .before .before .before .before .before .args in grew (a .m) (a .p) (now (a .out)) _ (c .before .before .before .before .before .ends-in .ensures)
+    (c .before .before .before .before .if1 .left) (c .before .before .put-corner .ensures)
 
 pub push-spec : {M : Type 1} → statement M
 push-spec =

@@ -7,7 +7,7 @@ use lib.ListN.{length}
 use lib.Ieee.{Float, nan}
 use Rattle.math.specs.declared.Vec3.{Vec3}
 use Rattle.math.specs.Mat.{transformPoint}
-use Rattle.trimesh.specs.SliceLaws.{triOf}
+use Rattle.trimesh.specs.Slices.{triOf}
 use Rattle.mesh.specs.Triples.{eachTo, putTriple, movedTriple}
 use Rattle.mesh.proofs.Each.{each-none, length-each, each-turn, each-end}
 use native.Mathlib.Omega.{arith}

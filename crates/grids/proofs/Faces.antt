@@ -1,0 +1,96 @@
+-- The faces of a parameter box of n parts on the middle axis, welded one after the other. Assumes nothing.
+use mathlib.Core.Path.{_≡_, refl, sym, ap, _∙_}
+use mathlib.Core.Bool.{Bool, true, false, cond, not}
+use mathlib.Core.List.{List, [], _∷_, _++_, append-nil}
+use Prim.Native.Nat.{ℕ, zero, suc, _+_, _%_, _≤_, _<_}
+use native.Mathlib.Omega.{arith}
+use lib.Ieee.{Float, eq}
+use Rattle.math.specs.declared.Vec3.{Vec3}
+use Rattle.math.specs.Vec.{axis}
+use Rattle.weld.specs.Rep.{Held, Ready, Runs}
+use Rattle.weld.specs.Runs.{runs-none, runs-then, runs-as}
+use Rattle.points.specs.Within.{FaceWithin}
+use Rattle.soups.specs.declared.Line.{Line}
+use Rattle.soups.specs.declared.Chart.{Chart}
+use Rattle.soups.specs.declared.Surface.the-variants.{Face}
+use Rattle.soups.specs.Grid.{Soup, grid}
+use Rattle.soups.specs.ParamBox.{three, face, faces, paramBox}
+use Rattle.soups.specs.Surface.{mapped, lineOf, surfaceAt}
+use Rattle.soups.proofs.SurfaceGrids.{face-surface}
+
+-- `three` at the middle axis and at the others
+pub three-middle : {A : Type 0} (a b c : A) (k : ℕ) → k ≡ 1 → b ≡ three a b c k
+three-middle a b c k e = ap (three a b c) (sym e)
+
+pub three-other : {A : Type 0} (a b : A) (k : ℕ) → (k ≡ 1 → ⊥) → a ≡ three a b a k
+three-other a b zero h = refl
+three-other a b (suc zero) h = absurd (h refl)
+three-other a b (suc (suc k)) h = refl
+
+few : (n k : ℕ) → n ≤ 1024 → three 1 n 1 k ≤ 1024
+few n zero h = omega arith
+few n (suc zero) h = h
+few n (suc (suc k)) h = omega arith
+
+-- a choice by a Bool
+pub chosen : {A : Type 0} (b : Bool) (x y r : A) → b ≡ true → r ≡ x → r ≡ cond b x y
+chosen b x y r e d = d ∙ ap (λ (t : Bool). cond t x y) (sym e)
+
+pub other : {A : Type 0} (b : Bool) (x y r : A) → b ≡ false → r ≡ y → r ≡ cond b x y
+other b x y r e d = d ∙ ap (λ (t : Bool). cond t x y) (sym e)
+
+-- a comparison of equal floats
+pub tested : (x y a b : Float) (t : Bool) → x ≡ a → y ≡ b → eq x y ≡ t → eq a b ≡ t
+tested x y a b t p q e = ap (λ (z : Float). eq z b) (sym p) ∙ ap (λ (z : Float). eq x z) (sym q) ∙ e
+
+module _ (lo hi : Vec3) (n : ℕ) (turns : Bool) (chart : Chart) where
+  pub face-within : (k : ℕ) (u v : Line) → k < 3 → n ≤ 1024 → u ≡ lineOf lo hi (three 1 n 1) (three false turns false) ((k + 1) % 3)
+      → v ≡ lineOf lo hi (three 1 n 1) (three false turns false) ((k + 2) % 3) → (u .n ≤ 1024) × (v .n ≤ 1024) × FaceWithin k u v (u .n) (v .n)
+  face-within k u v l h p q =
+      let a : u .n ≤ 1024 = omega (arith, ap (λ (x : Line). x .n) p, few n ((k + 1) % 3) h) in
+      let b : v .n ≤ 1024 = omega (arith, ap (λ (x : Line). x .n) q, few n ((k + 2) % 3) h) in
+      (a, b, record { axis = l; ufew = a; vfew = b; ulast = omega arith; vlast = omega arith })
+
+  pub face-runs : (p : List Float) (k : ℕ) (side : Bool) (u v : Line) (val : Float) (h r : Held)
+      → u ≡ lineOf lo hi (three 1 n 1) (three false turns false) ((k + 1) % 3) → v ≡ lineOf lo hi (three 1 n 1) (three false turns false) ((k + 2) % 3)
+      → val ≡ cond side (axis hi k) (axis lo k) → Runs (grid (u .n) (v .n) (not side) (surfaceAt p (Face chart k val u v))) h r
+      → Runs (face lo hi (three 1 n 1) (three false turns false) (mapped chart) k side) h r
+  face-runs p k side u v val h r eu ev e R =
+      let U : Line = lineOf lo hi (three 1 n 1) (three false turns false) ((k + 1) % 3) in
+      let W : Line = lineOf lo hi (three 1 n 1) (three false turns false) ((k + 2) % 3) in
+      let x : Float = cond side (axis hi k) (axis lo k) in
+      runs-as
+      (ap (λ (y : Line). grid (y .n) (v .n) (not side) (surfaceAt p (Face chart k val y v))) eu
+      ∙ ap (λ (y : Line). grid (U .n) (y .n) (not side) (surfaceAt p (Face chart k val U y))) ev
+      ∙ ap (λ (y : Float). grid (U .n) (W .n) (not side) (surfaceAt p (Face chart k y U W))) e
+      ∙ sym (face-surface p lo hi (three 1 n 1) (three false turns false) chart k side)) R
+
+module _ (lo hi : Vec3) (divs : ℕ → ℕ) (periodic : ℕ → Bool) (map : Vec3 → Vec3) where
+  faces-are : (k : ℕ) (t e : Bool) → periodic k ≡ t → eq (axis hi k) (axis lo k) ≡ e →
+      faces lo hi divs periodic map k ≡ cond t [] (face lo hi divs periodic map k false ++ cond e [] (face lo hi divs periodic map k true))
+  unfolding faces
+  faces-are k t e p q =
+      ap (λ (b : Bool). cond b [] (face lo hi divs periodic map k false ++ cond (eq (axis hi k) (axis lo k)) [] (face lo hi divs periodic map k true))) p
+      ∙ ap (λ (b : Bool). cond t [] (face lo hi divs periodic map k false ++ cond b [] (face lo hi divs periodic map k true))) q
+
+  -- no faces on a periodic axis
+  pub faces-none : (k : ℕ) (h : Held) → Ready h → true ≡ periodic k → Runs (faces lo hi divs periodic map k) h h
+  faces-none k h R p = runs-as (sym (faces-are k true (eq (axis hi k) (axis lo k)) (sym p) refl)) (runs-none h R)
+
+  -- the low one alone on a flat axis
+  pub faces-low : (k : ℕ) (h r : Held) → false ≡ periodic k → eq (axis hi k) (axis lo k) ≡ true → Runs (face lo hi divs periodic map k false) h r
+      → Runs (faces lo hi divs periodic map k) h r
+  faces-low k h r p q R = runs-as (sym (append-nil (face lo hi divs periodic map k false)) ∙ sym (faces-are k false true (sym p) q)) R
+
+  -- both
+  pub faces-both : (k : ℕ) (h m r : Held) → false ≡ periodic k → eq (axis hi k) (axis lo k) ≡ false → Runs (face lo hi divs periodic map k false) h m
+      → Runs (face lo hi divs periodic map k true) m r → Runs (faces lo hi divs periodic map k) h r
+  faces-both k h m r p q R Q = runs-as (sym (faces-are k false false (sym p) q)) (runs-then (face lo hi divs periodic map k false) (face lo hi divs periodic map k true) h m r R Q)
+
+  -- the three axes
+  pub box-runs : (h a b r : Held) → Runs (faces lo hi divs periodic map 0) h a → Runs (faces lo hi divs periodic map 1) a b → Runs (faces lo hi divs periodic map 2) b r
+      → Runs (paramBox lo hi divs periodic map) h r
+  unfolding paramBox
+  box-runs h a b r X Y Z =
+      runs-then (faces lo hi divs periodic map 0 ++ faces lo hi divs periodic map 1) (faces lo hi divs periodic map 2) h b r
+      (runs-then (faces lo hi divs periodic map 0) (faces lo hi divs periodic map 1) h a b X Y) Z

@@ -1,0 +1,23 @@
+-- `grids::boxes::line_of` meets its contract. Assumes nothing.
+use borrow.Author.Needs.{needs}
+use Rattle.grids.proofs.boxes.line_of.Statement.{statement}
+use Rattle.grids.proofs.boxes.line_of.Tie as tie
+
+axis-requires : tie.Need-axis-requires
+axis-requires c κs = search needs
+
+axis-requires-2 : tie.Need-axis-requires-2
+axis-requires-2 c κs = search needs
+
+cuts-requires : tie.Need-cuts-requires
+cuts-requires c κs = search needs
+
+wraps-requires : tie.Need-wraps-requires
+wraps-requires c κs = search needs
+
+returns : tie.Need-returns
+returns c = cc
+
+pub line-of-spec : {M : Type 1} → statement M
+line-of-spec =
+    tie.close (tie.spec axis-requires axis-requires-2 cuts-requires wraps-requires returns)

@@ -1,0 +1,40 @@
+-- `grids::boxes::weld_cylindrical_box` meets its contract. Assumes nothing.
+use Rattle.grids.proofs.BoxRuns.{arc-few, cylindrical-runs}
+use borrow.Author.Needs.{needs}
+use Rattle.grids.proofs.boxes.weld_cylindrical_box.Statement.{statement}
+use Rattle.grids.proofs.boxes.weld_cylindrical_box.Tie as tie
+
+turned-to-requires : tie.Need-turned-to-requires
+turned-to-requires c κs = search needs
+
+arc-segments-requires : tie.Need-arc-segments-requires
+arc-segments-requires c κs = search needs
+
+weld-param-box-requires : tie.Need-weld-param-box-requires
+weld-param-box-requires c κs = (c .before .before .before .before .before .before .before .before .before .before .pre .0, arc-few _ _ _ (c .before .before .before .arc-segments
+    .ensures) (c .before .before .before .before .before .before .before .before .before .before .pre .1))
+
+same-length : tie.Need-same-length
+same-length c = c .before .before .before .before .before .before .weld-param-box .ensures .vlong
+
+same-length-2 : tie.Need-same-length-2
+same-length-2 c = c .before .before .before .before .before .before .weld-param-box .ensures .tlong
+
+same-length-3 : tie.Need-same-length-3
+same-length-3 c = c .before .before .before .before .before .before .weld-param-box .ensures .wlong
+
+returns : tie.Need-returns
+returns c = cylindrical-runs _ _ _ _ _ _ _ _ (c .before .before .before .before .before .before .before .before .before .before .before .before .before .turned-to .ensures) (c
+    .before .before .before .before .before .before .before .before .before .before .arc-segments .ensures) (c .before .before .before .before .before .before .weld-param-box .ensures)
+
+pub weld-cylindrical-box-spec : {M : Type 1} → statement M
+weld-cylindrical-box-spec =
+    tie.close
+    (tie.spec
+    turned-to-requires
+    arc-segments-requires
+    weld-param-box-requires
+    same-length
+    same-length-2
+    same-length-3
+    returns)

@@ -1,0 +1,115 @@
+-- `grids::grid::weld_row` meets its contract. Assumes nothing.
+use Rattle.grids.proofs.Cells.{row-none, row-more}
+use Rattle.points.proofs.Surfaces.{within-less}
+use Rattle.soups.specs.Surface.{surfaceAt}
+use Rattle.soups.specs.Grid.{row}
+use Rattle.weld.specs.Runs.{runs-as}
+use Rattle.weld.specs.Rep.{held, Runs}
+use Prim.Native.Nat.{ℕ, _+_, _-_, _≤_, zero-le}
+use mathlib.Core.Path.{_≡_, ap}
+use denote.Ref.{now}
+use native.Mathlib.Omega.{arith}
+use Rattle.grids.proofs.grid.weld_row.Statement.{statement}
+use Rattle.grids.proofs.grid.weld_row.Tie as tie
+
+abbrev Inv-loop : tie.InvT-loop
+Inv-loop vertices₀ triangles₀ work₀ s corners i nv flip st₀ a₀ b₀ j₀ vertices triangles work st a b j =
+    (j ≤ nv)
+    × Runs (row j flip (surfaceAt corners s) i) (held st₀ vertices₀ triangles₀ work₀) (held st vertices triangles work)
+    × (a ≡ surfaceAt corners s i j)
+    × (b ≡ surfaceAt corners s (i + 1) j)
+
+abbrev μ-loop : tie.MeasureT-loop
+μ-loop vertices₀ triangles₀ work₀ s corners i nv flip st₀ a₀ b₀ j₀ vertices triangles work st a b j = nv - j
+
+surface-point-requires : tie.Need-surface-point-requires Inv-loop μ-loop
+surface-point-requires c κs = let x = c .before .before .before .before in within-less (now (x .args .corners)) (x .args .s) (x .args .i + 1) (x .args .nv) (x .args .i) 0 (omega
+    arith) (omega arith) (x .pre .1 .2)
+
+add-surface-point : tie.Need-add-surface-point Inv-loop μ-loop
+add-surface-point c = omega (arith, c .before .before .before .before .before .pre .1 .0)
+
+surface-point-requires-2 : tie.Need-surface-point-requires-2 Inv-loop μ-loop
+surface-point-requires-2 c κs = let x = c .before .before .before .before .before in within-less (now (x .args .corners)) (x .args .s) (x .args .i + 1) (x .args .nv) (x .args .i
+    + 1) 0 (omega arith) (omega arith) (x .pre .1 .2)
+
+loop-holds : tie.Need-loop-holds Inv-loop μ-loop
+loop-holds c = let x = c .before .before .before .before .before .before in (zero-le, row-none (x .args .flip) (surfaceAt (now (x .args .corners)) (x .args .s)) (x .args .i) _
+    (x .pre .0), c .before .surface-point .ensures, c .surface-point2 .ensures)
+
+add-surface-point-2 : tie.Need-add-surface-point-2 Inv-loop μ-loop
+add-surface-point-2 c = omega (arith, c .loop-test .taken, c .before .before .before .before .before .before .before .before .pre .1 .1)
+
+surface-point-requires-3 : tie.Need-surface-point-requires-3 Inv-loop μ-loop
+surface-point-requires-3 c κs = let x = c .before .before .before .before .before .before .before .before in within-less (now (x .args .corners)) (x .args .s) (x .args .i + 1)
+    (x .args .nv) (x .args .i) (c .before .loop .j + 1) (omega arith) (omega (arith, c .loop-test .taken)) (x .pre .1 .2)
+
+add-surface-point-3 : tie.Need-add-surface-point-3 Inv-loop μ-loop
+add-surface-point-3 c = omega (arith, c .before .before .before .before .before .before .before .before .before .pre .1 .0)
+
+add-surface-point-4 : tie.Need-add-surface-point-4 Inv-loop μ-loop
+add-surface-point-4 c = omega (arith, c .before .loop-test .taken, c .before .before .before .before .before .before .before .before .before .pre .1 .1)
+
+surface-point-requires-4 : tie.Need-surface-point-requires-4 Inv-loop μ-loop
+surface-point-requires-4 c κs = let x = c .before .before .before .before .before .before .before .before .before in within-less (now (x .args .corners)) (x .args .s) (x .args
+    .i + 1) (x .args .nv) (x .args .i + 1) (c .before .before .loop .j + 1) (omega arith) (omega (arith, c .before .loop-test .taken)) (x .pre .1 .2)
+
+weld-cell-requires : tie.Need-weld-cell-requires Inv-loop μ-loop
+weld-cell-requires c κs = c .before .before .before .before .before .before .loop .inv .1 .ready
+
+add-j : tie.Need-add-j Inv-loop μ-loop
+add-j c = omega (arith, c .before .before .before .before .before .before .before .before .before .before .before .before .loop-test .taken, c .before .before .before .before
+    .before .before .before .before .before .before .before .before .before .before .before .before .before .before .before .before .pre .1 .1)
+
+loop-less : tie.Need-loop-less Inv-loop μ-loop
+loop-less c = omega (arith, c .before .before .before .before .before .before .before .before .before .before .before .before .loop-test .taken)
+
+loop-again : tie.Need-loop-again Inv-loop μ-loop
+loop-again c = let x = c .before .before .before .before .before .before .before .before .before .before .before .before .before .before .before .before .before .before .before .before in
+    let l = c .before .before .before .before .before .before .before .before .before .before .before .before .before .loop in (
+      omega (arith, c .before .before .before .before .before .before .before .before .before .before .before .before .loop-test .taken),
+      row-more (x .args .flip) (surfaceAt (now (x .args .corners)) (x .args .s)) (x .args .i) (l .j) _ _ _ _ _ _ _ (l .inv .2) (l .inv .3) (c .before .before .before .before
+      .before .before .before .before .before .before .surface-point4 .ensures)
+          (c .before .before .before .before .before .before .before .before .before .before .before .surface-point3 .ensures) (l .inv .1) (c .before .before .before .before
+          .before .before .weld-cell .ensures),
+      c .before .before .before .before .before .before .before .before .before .before .before .surface-point3 .ensures,
+      c .before .before .before .before .before .before .before .before .before .before .surface-point4 .ensures,
+    )
+
+same-length : tie.Need-same-length Inv-loop μ-loop
+same-length c = c .before .loop .inv .1 .vlong
+
+same-length-2 : tie.Need-same-length-2 Inv-loop μ-loop
+same-length-2 c = c .before .loop .inv .1 .tlong
+
+same-length-3 : tie.Need-same-length-3 Inv-loop μ-loop
+same-length-3 c = c .before .loop .inv .1 .wlong
+
+returns : tie.Need-returns Inv-loop μ-loop
+returns c = let x = c .before .before .before .before .before .before .before .before in
+    let e : c .before .loop .j ≡ x .args .nv = omega (arith, c .before .loop .inv .0, c .loop-test .left) in
+    runs-as (ap (λ (n : ℕ). row n (x .args .flip) (surfaceAt (now (x .args .corners)) (x .args .s)) (x .args .i)) e) (c .before .loop .inv .1)
+
+pub weld-row-spec : {M : Type 1} → statement M
+weld-row-spec =
+    tie.close
+    (tie.spec
+    Inv-loop
+    μ-loop
+    surface-point-requires
+    add-surface-point
+    surface-point-requires-2
+    loop-holds
+    add-surface-point-2
+    surface-point-requires-3
+    add-surface-point-3
+    add-surface-point-4
+    surface-point-requires-4
+    weld-cell-requires
+    add-j
+    loop-less
+    loop-again
+    same-length
+    same-length-2
+    same-length-3
+    returns)

@@ -1,0 +1,2 @@
+-- What the contracts of `grids` cite beside the definitions of `soups`.
+pub mod Cell

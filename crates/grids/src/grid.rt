@@ -1,0 +1,94 @@
+// Soup::quad and Soup::grid of src/tessellate.rs, streamed into the welder.
+ghost use mathlib.Core.Path.{_≡_};
+ghost use Prim.Native.Nat.{_+_, _≤_};
+ghost use Rattle.weld.specs.Rep.{held, Ready, Runs};
+ghost use Rattle.points.specs.Within.{Within};
+ghost use Rattle.soups.specs.Surface.{surfaceAt};
+ghost use Rattle.soups.specs.Grid as Grid;
+ghost use Rattle.grids.specs.Cell.{turned};
+use math::Vec3;
+use soups::Surface;
+use weld::Welder;
+
+// One cell: the quad a, b, c, d, or where flip says so a, d, c, b.
+fn weld_cell(
+    vertices: &mut [f64],
+    triangles: &mut [u32],
+    work: &mut [u32],
+    w: Welder,
+    flip: bool,
+    a: Vec3,
+    b: Vec3,
+    c: Vec3,
+    d: Vec3,
+) -> Welder
+    requires { ⌜ Ready (held w (now vertices) (now triangles) (now work)) ⌝ }
+    ensures { λ r. ⌜ Runs (turned flip a b c d)
+        (held w (now (vertices .entry)) (now (triangles .entry)) (now (work .entry)))
+        (held r (now (vertices .exit)) (now (triangles .exit)) (now (work .exit))) ⌝ }
+{
+    if flip {
+        return weld::weld_quad(vertices, triangles, work, w, a, d, c, b);
+    }
+    weld::weld_quad(vertices, triangles, work, w, a, b, c, d)
+}
+
+// The cells of row i. The last two points of a cell are the first two of the next.
+fn weld_row(
+    vertices: &mut [f64],
+    triangles: &mut [u32],
+    work: &mut [u32],
+    w: Welder,
+    s: Surface,
+    corners: &[f64],
+    i: usize,
+    nv: usize,
+    flip: bool,
+) -> Welder
+    requires { ⌜ Ready (held w (now vertices) (now triangles) (now work)) ⌝ }
+    requires { ⌜ (i + 1 ≤ 1024) × (nv ≤ 1024) × Within (now corners) s (i + 1) nv ⌝ }
+    ensures { λ r. ⌜ Runs (Grid.row nv flip (surfaceAt (now (corners .entry)) s) i)
+        (held w (now (vertices .entry)) (now (triangles .entry)) (now (work .entry)))
+        (held r (now (vertices .exit)) (now (triangles .exit)) (now (work .exit))) ⌝ }
+{
+    let mut st = w;
+    let mut a = points::surface_point(s, corners, i, 0);
+    let mut b = points::surface_point(s, corners, i + 1, 0);
+    let mut j = 0;
+    while j < nv {
+        let d = points::surface_point(s, corners, i, j + 1);
+        let c = points::surface_point(s, corners, i + 1, j + 1);
+        st = weld_cell(vertices, triangles, work, st, flip, a, b, c, d);
+        a = d;
+        b = c;
+        j += 1;
+    }
+    st
+}
+
+// Soup::grid over a surface.
+pub fn weld_grid(
+    vertices: &mut [f64],
+    triangles: &mut [u32],
+    work: &mut [u32],
+    w: Welder,
+    s: Surface,
+    corners: &[f64],
+    nu: usize,
+    nv: usize,
+    flip: bool,
+) -> Welder
+    requires { ⌜ Ready (held w (now vertices) (now triangles) (now work)) ⌝ }
+    requires { ⌜ (nu ≤ 1024) × (nv ≤ 1024) × Within (now corners) s nu nv ⌝ }
+    ensures { λ r. ⌜ Runs (Grid.grid nu nv flip (surfaceAt (now (corners .entry)) s))
+        (held w (now (vertices .entry)) (now (triangles .entry)) (now (work .entry)))
+        (held r (now (vertices .exit)) (now (triangles .exit)) (now (work .exit))) ⌝ }
+{
+    let mut st = w;
+    let mut i = 0;
+    while i < nu {
+        st = weld_row(vertices, triangles, work, st, s, corners, i, nv, flip);
+        i += 1;
+    }
+    st
+}

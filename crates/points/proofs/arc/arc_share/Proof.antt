@@ -1,0 +1,24 @@
+-- `points::arc::arc_share` meets its contract. Assumes nothing.
+use Rattle.soups.specs.Arc.{arcShare}
+use Rattle.ieee.specs.Ends.{ofNat-in}
+use native.Mathlib.Omega.{arith}
+use borrow.Author.Needs.{needs}
+use Rattle.points.proofs.arc.arc_share.Statement.{statement}
+use Rattle.points.proofs.arc.arc_share.Tie as tie
+
+larger-requires : tie.Need-larger-requires
+larger-requires c κs = search needs
+
+int-to-float-full : tie.Need-int-to-float-full
+int-to-float-full c = ofNat-in _ (omega (arith, c .before .larger .ensures))
+
+counted-span-requires : tie.Need-counted-span-requires
+counted-span-requires c κs = search needs
+
+returns : tie.Need-returns
+unfolding arcShare
+returns c = cc
+
+pub arc-share-spec : {M : Type 1} → statement M
+arc-share-spec =
+    tie.close (tie.spec larger-requires int-to-float-full counted-span-requires returns)

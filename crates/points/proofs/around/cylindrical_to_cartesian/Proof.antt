@@ -1,0 +1,15 @@
+-- `points::around::cylindrical_to_cartesian` meets its contract. Assumes nothing.
+use Rattle.soups.specs.Coords.{cylindricalToCartesian}
+use borrow.Author.Needs.{needs}
+use Rattle.points.proofs.around.cylindrical_to_cartesian.Statement.{statement}
+use Rattle.points.proofs.around.cylindrical_to_cartesian.Tie as tie
+
+sin-cos-requires : tie.Need-sin-cos-requires
+sin-cos-requires c κs = search needs
+
+returns : tie.Need-returns
+unfolding cylindricalToCartesian
+returns c = cc
+
+pub cylindrical-to-cartesian-spec : {M : Type 1} → statement M
+cylindrical-to-cartesian-spec = tie.close (tie.spec sin-cos-requires returns)

@@ -1,0 +1,22 @@
+-- `points::around::frame1` meets its contract. Assumes nothing.
+use Rattle.points.specs.Pieces.{beside}
+use Rattle.soups.specs.Cylinder.{frame1}
+use borrow.Author.Needs.{needs}
+use Rattle.points.proofs.around.frame1.Statement.{statement}
+use Rattle.points.proofs.around.frame1.Tie as tie
+
+beside-requires : tie.Need-beside-requires
+beside-requires c κs = search needs
+
+cross-requires : tie.Need-cross-requires
+cross-requires c κs = search needs
+
+normalized-requires : tie.Need-normalized-requires
+normalized-requires c κs = search needs
+
+returns : tie.Need-returns
+unfolding frame1 beside
+returns c = cc
+
+pub frame1-spec : {M : Type 1} → statement M
+frame1-spec = tie.close (tie.spec beside-requires cross-requires normalized-requires returns)

@@ -1,0 +1,18 @@
+-- `points::around::frame2` meets its contract. Assumes nothing.
+use Rattle.soups.specs.Cylinder.{frame2}
+use borrow.Author.Needs.{needs}
+use Rattle.points.proofs.around.frame2.Statement.{statement}
+use Rattle.points.proofs.around.frame2.Tie as tie
+
+frame1-requires : tie.Need-frame1-requires
+frame1-requires c κs = search needs
+
+cross-requires : tie.Need-cross-requires
+cross-requires c κs = search needs
+
+returns : tie.Need-returns
+unfolding frame2
+returns c = cc
+
+pub frame2-spec : {M : Type 1} → statement M
+frame2-spec = tie.close (tie.spec frame1-requires cross-requires returns)

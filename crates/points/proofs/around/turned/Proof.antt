@@ -1,0 +1,21 @@
+-- `points::around::turned` meets its contract. Assumes nothing.
+use Rattle.points.specs.Pieces.{turned}
+use borrow.Author.Needs.{needs}
+use Rattle.points.proofs.around.turned.Statement.{statement}
+use Rattle.points.proofs.around.turned.Tie as tie
+
+mul-requires : tie.Need-mul-requires
+mul-requires c κs = search needs
+
+mul-requires-2 : tie.Need-mul-requires-2
+mul-requires-2 c κs = search needs
+
+add-requires : tie.Need-add-requires
+add-requires c κs = search needs
+
+returns : tie.Need-returns
+unfolding turned
+returns c = cc
+
+pub turned-spec : {M : Type 1} → statement M
+turned-spec = tie.close (tie.spec mul-requires mul-requires-2 add-requires returns)

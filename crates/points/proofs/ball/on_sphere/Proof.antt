@@ -1,0 +1,18 @@
+-- `points::ball::on_sphere` meets its contract. Assumes nothing.
+use Rattle.soups.specs.Sphere.{onSphere}
+use borrow.Author.Needs.{needs}
+use Rattle.points.proofs.ball.on_sphere.Statement.{statement}
+use Rattle.points.proofs.ball.on_sphere.Tie as tie
+
+mul-requires : tie.Need-mul-requires
+mul-requires c κs = search needs
+
+add-requires : tie.Need-add-requires
+add-requires c κs = search needs
+
+returns : tie.Need-returns
+unfolding onSphere
+returns c = cc
+
+pub on-sphere-spec : {M : Type 1} → statement M
+on-sphere-spec = tie.close (tie.spec mul-requires add-requires returns)

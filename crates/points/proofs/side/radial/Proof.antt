@@ -1,0 +1,39 @@
+-- `points::side::radial` meets its contract. Assumes nothing.
+use Rattle.points.specs.Pieces.{radial}
+use borrow.Author.Needs.{needs}
+use Rattle.points.proofs.side.radial.Statement.{statement}
+use Rattle.points.proofs.side.radial.Tie as tie
+
+unit-requires : tie.Need-unit-requires
+unit-requires c κs = search needs
+
+unit-requires-2 : tie.Need-unit-requires-2
+unit-requires-2 c κs = search needs
+
+cross-requires : tie.Need-cross-requires
+cross-requires c κs = search needs
+
+mul-requires : tie.Need-mul-requires
+mul-requires c κs = search needs
+
+mul-requires-2 : tie.Need-mul-requires-2
+mul-requires-2 c κs = search needs
+
+add-requires : tie.Need-add-requires
+add-requires c κs = search needs
+
+returns : tie.Need-returns
+unfolding radial
+returns c = cc
+
+pub radial-spec : {M : Type 1} → statement M
+radial-spec =
+    tie.close
+    (tie.spec
+    unit-requires
+    unit-requires-2
+    cross-requires
+    mul-requires
+    mul-requires-2
+    add-requires
+    returns)

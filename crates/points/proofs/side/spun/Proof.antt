@@ -1,0 +1,30 @@
+-- `points::side::spun` meets its contract. Assumes nothing.
+use Rattle.points.specs.Pieces.{radial}
+use Rattle.soups.specs.Outline.{spun}
+use borrow.Author.Needs.{needs}
+use Rattle.points.proofs.side.spun.Statement.{statement}
+use Rattle.points.proofs.side.spun.Tie as tie
+
+unit-requires : tie.Need-unit-requires
+unit-requires c κs = search needs
+
+mul-requires : tie.Need-mul-requires
+mul-requires c κs = search needs
+
+radial-requires : tie.Need-radial-requires
+radial-requires c κs = search needs
+
+mul-requires-2 : tie.Need-mul-requires-2
+mul-requires-2 c κs = search needs
+
+add-requires : tie.Need-add-requires
+add-requires c κs = search needs
+
+returns : tie.Need-returns
+unfolding spun radial
+returns c = cc
+
+pub spun-spec : {M : Type 1} → statement M
+spun-spec =
+    tie.close
+    (tie.spec unit-requires mul-requires radial-requires mul-requires-2 add-requires returns)

@@ -1,0 +1,3 @@
+-- What the contracts of `points` cite beside the definitions of `soups`.
+pub mod Pieces
+pub mod Within

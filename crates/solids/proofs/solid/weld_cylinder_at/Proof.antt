@@ -1,0 +1,40 @@
+-- `solids::solid::weld_cylinder_at` meets its contract. Assumes nothing.
+use lib.Ieee.{ofBits}
+use Rattle.solids.proofs.ShapeRuns.{cylinder-soup}
+use Rattle.solids.proofs.solid.weld_cylinder_at.Statement.{statement}
+use Rattle.solids.proofs.solid.weld_cylinder_at.Tie as tie
+
+to-cartesian-requires : tie.Need-to-cartesian-requires
+to-cartesian-requires c κs = tt
+
+to-cartesian-requires-2 : tie.Need-to-cartesian-requires-2
+to-cartesian-requires-2 c κs = tt
+
+weld-cylinder-requires : tie.Need-weld-cylinder-requires
+weld-cylinder-requires c κs = (c .before .before .before .before .before .before .before .before .pre .0, c .before .before .before .before .before .before .before .before .pre .1)
+
+same-length : tie.Need-same-length
+same-length c = c .before .before .before .before .before .before .weld-cylinder .ensures .vlong
+
+same-length-2 : tie.Need-same-length-2
+same-length-2 c = c .before .before .before .before .before .before .weld-cylinder .ensures .tlong
+
+same-length-3 : tie.Need-same-length-3
+same-length-3 c = c .before .before .before .before .before .before .weld-cylinder .ensures .wlong
+
+returns : tie.Need-returns
+unfolding ofBits
+returns c = cylinder-soup _ _ _ _ _ _ _ _ _ (c .before .before .before .before .before .before .before .before .before .before .before .to-cartesian .ensures) (c .before .before
+    .before .before .before .before .before .before .before .before .to-cartesian2 .ensures) (c .before .before .before .before .before .before .weld-cylinder .ensures)
+
+pub weld-cylinder-at-spec : {M : Type 1} → statement M
+weld-cylinder-at-spec =
+    tie.close
+    (tie.spec
+    to-cartesian-requires
+    to-cartesian-requires-2
+    weld-cylinder-requires
+    same-length
+    same-length-2
+    same-length-3
+    returns)

@@ -1,0 +1,45 @@
+-- `solids::solid::weld_lin_poly` meets its contract. Assumes nothing.
+use native.Mathlib.Omega.{arith}
+use Rattle.solids.proofs.ShapeRuns.{lin-soup}
+use Rattle.solids.proofs.solid.weld_lin_poly.Statement.{statement}
+use Rattle.solids.proofs.solid.weld_lin_poly.Tie as tie
+
+direction-requires : tie.Need-direction-requires
+direction-requires c κs = tt
+
+min-requires : tie.Need-min-requires
+min-requires c κs = tt
+
+max-requires : tie.Need-max-requires
+max-requires c κs = tt
+
+weld-extruded-requires : tie.Need-weld-extruded-requires
+weld-extruded-requires c κs = (c .before .before .before .before .before .before .before .before .before .before .pre .0, (omega (arith, c .before .before .before .before
+    .before .direction .ensures .1), c .before .before .before .before .before .before .before .before .before .before .pre .1))
+
+same-length : tie.Need-same-length
+same-length c = c .before .before .before .before .before .before .weld-extruded .ensures .vlong
+
+same-length-2 : tie.Need-same-length-2
+same-length-2 c = c .before .before .before .before .before .before .weld-extruded .ensures .tlong
+
+same-length-3 : tie.Need-same-length-3
+same-length-3 c = c .before .before .before .before .before .before .weld-extruded .ensures .wlong
+
+returns : tie.Need-returns
+returns c = lin-soup _ _ _ _ _ _ _ _ _ (c .before .before .before .before .before .before .before .before .before .before .before .before .direction .ensures .0) (c .before
+    .before .before .before .before .before .before .before .before .before .before .min .ensures) (c .before .before .before .before .before .before .before .before .before
+    .before .max .ensures) (c .before .before .before .before .before .before .weld-extruded .ensures)
+
+pub weld-lin-poly-spec : {M : Type 1} → statement M
+weld-lin-poly-spec =
+    tie.close
+    (tie.spec
+    direction-requires
+    min-requires
+    max-requires
+    weld-extruded-requires
+    same-length
+    same-length-2
+    same-length-3
+    returns)

@@ -1,0 +1,22 @@
+-- The caps of an outline as `extruded_polygon` and `rotpoly` of src/tessellate.rs push them: a triangle at one end, or at both. Definitions only.
+use mathlib.Core.Bool.{Bool, true, false, cond}
+use mathlib.Core.List.{List, [], _∷_, _++_}
+use Prim.Native.Nat.{ℕ}
+use lib.Ieee.{Float}
+use Rattle.ieee.specs.Number.{tau}
+use Rattle.balance.specs.Soup.{Tri, mapTri, flip}
+
+module _ {P : Type 0} where
+  -- a triangle at the one end, and where both says so turned round at the other
+  abbrev pub capOf : Bool → (ℕ → P) → (ℕ → P) → Tri ℕ → List (Tri P)
+  capOf true near far t = mapTri near t ∷ flip (mapTri far t) ∷ []
+  capOf false near far t = mapTri near t ∷ []
+
+  -- the same for each triangle in turn
+  abbrev pub capsOf : Bool → (ℕ → P) → (ℕ → P) → List (Tri ℕ) → List (Tri P)
+  capsOf both near far [] = []
+  capsOf both near far (t ∷ ts) = capOf both near far t ++ capsOf both near far ts
+
+-- the span of which `rotpoly` counts the segments: `if full { TAU } else { span }`
+unfoldable pub turnSpan : Bool → Float → Float
+turnSpan full span = cond full tau span
