@@ -16,7 +16,11 @@ pub use measures::area;
 pub use measures::bounding_box;
 pub use measures::enclosed_volume;
 pub use measures::signed_volume;
+pub use moves::move_all;
+pub use moves::stay_finite;
 use refusal::Refusal;
+pub use sums::volume_sum;
+pub use writes::turn_all;
 
 // The counts of a mesh.
 pub struct TriMesh {

@@ -1,0 +1,106 @@
+-- `tessellate::tessellate` meets its contract. Assumes nothing.
+use mathlib.Core.Path.{_≡_, refl, sym, ap, _∙_}
+use denote.Ref.{now}
+use lib.ListN.{length}
+use native.Mathlib.Omega.{arith}
+use Prim.Native.Nat.{_<_}
+use mathlib.Core.Bool.{true, false}
+use Rattle.refusal.specs.Number.{numberOf}
+use Rattle.outcome.specs.Outcome.{jobRefusal, shortWork}
+use Rattle.tessellate.specs.Gives.{job}
+use Rattle.tessellate.proofs.Ending.{gives-as}
+use Rattle.tessellate.proofs.Choices.{short, drawing, accepted-zero}
+use borrow.Author.Needs.{needs}
+use Rattle.tessellate.proofs.tessellate.Statement.{statement}
+use Rattle.tessellate.proofs.tessellate.Tie as tie
+
+short-work-requires : tie.Need-short-work-requires
+short-work-requires c κs = search needs
+
+refuse-requires : tie.Need-refuse-requires
+refuse-requires c κs = search needs
+
+same-length : tie.Need-same-length
+same-length c = search needs
+
+same-length-2 : tie.Need-same-length-2
+same-length-2 c = search needs
+
+same-length-3 : tie.Need-same-length-3
+same-length-3 c = search needs
+
+returns : tie.Need-returns
+returns c =
+    let a = c .before .before .before .before .before .before .before .before .before .before .before .before .before .before .before .before .args in
+    let j = job (a .shape) (now (a .list)) (a .own) (a .default) (a .options) (a .degrees) (a .ops) (a .op-count) in
+    gives-as (short j (length (now (a .vertices))) (length (now (a .triangles))) (length (now (a .work))) (sym (c .before .before .before .before .before .before .before .before .before .before .before .short-work .ensures) ∙ c .before .before .before .before .before .before .before .before .before .before .if1 .taken)) (c .before .before .before .before .before .before .refuse .ensures)
+
+check-drawing-requires : tie.Need-check-drawing-requires
+check-drawing-requires c κs = search needs
+
+number-requires : tie.Need-number-requires
+number-requires c κs = search needs
+
+refuse-requires-2 : tie.Need-refuse-requires-2
+refuse-requires-2 c κs = search needs
+
+same-length-4 : tie.Need-same-length-4
+same-length-4 c = search needs
+
+same-length-5 : tie.Need-same-length-5
+same-length-5 c = search needs
+
+same-length-6 : tie.Need-same-length-6
+same-length-6 c = search needs
+
+returns-2 : tie.Need-returns-2
+unfolding jobRefusal
+returns-2 c =
+    let a = c .before .before .before .before .before .before .before .before .before .before .before .before .before .before .before .before .before .before .before .args in
+    let j = job (a .shape) (now (a .list)) (a .own) (a .default) (a .options) (a .degrees) (a .ops) (a .op-count) in
+    gives-as (drawing j (length (now (a .vertices))) (length (now (a .triangles))) (length (now (a .work))) (c .before .before .before .before .before .before .before .before .before .before .before .before .check-drawing .result) (sym (c .before .before .before .before .before .before .before .before .before .before .before .before .before .before .short-work .ensures) ∙ c .before .before .before .before .before .before .before .before .before .before .before .before .before .if1 .left) (c .before .before .before .before .before .before .before .before .before .before .before .before .check-drawing .ensures) (omega (arith, c .before .before .before .before .before .before .before .before .before .before .before .number .ensures, c .before .before .before .before .before .before .before .before .before .before .if2 .taken))) (c .before .before .before .before .before .before .refuse2 .ensures)
+
+draw-requires : tie.Need-draw-requires
+unfolding jobRefusal
+draw-requires c κs =
+    let a = c .before .before .before .before .before .before .before .before .before .before .before .before .args in
+    let j = job (a .shape) (now (a .list)) (a .own) (a .default) (a .options) (a .degrees) (a .ops) (a .op-count) in
+    record {
+      work = sym (c .before .before .before .before .before .before .before .short-work .ensures) ∙ c .before .before .before .before .before .before .if1 .left;
+      drawing = sym (c .before .before .before .before .before .check-drawing .ensures) ∙ accepted-zero (c .before .before .before .before .before .check-drawing .result) (omega (arith, c .before .before .before .before .number .ensures, c .before .before .before .if2 .left));
+    }
+
+same-length-7 : tie.Need-same-length-7
+same-length-7 c = search needs
+
+same-length-8 : tie.Need-same-length-8
+same-length-8 c = search needs
+
+same-length-9 : tie.Need-same-length-9
+same-length-9 c = search needs
+
+returns-3 : tie.Need-returns-3
+returns-3 c = search needs
+
+pub tessellate-spec : {M : Type 1} → statement M
+tessellate-spec =
+    tie.close
+    (tie.spec
+    short-work-requires
+    refuse-requires
+    same-length
+    same-length-2
+    same-length-3
+    returns
+    check-drawing-requires
+    number-requires
+    refuse-requires-2
+    same-length-4
+    same-length-5
+    same-length-6
+    returns-2
+    draw-requires
+    same-length-7
+    same-length-8
+    same-length-9
+    returns-3)

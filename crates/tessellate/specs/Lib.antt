@@ -1,0 +1,3 @@
+-- What the contracts of `tessellate` cite beside the definitions of `outcome`.
+pub mod Gives
+pub mod Steps

@@ -1,0 +1,55 @@
+// The end of a call: what stays in the lent slices.
+ghost use mathlib.Core.Path.{_≡_};
+ghost use Prim.Native.Nat.{_*_, _≤_};
+ghost use lib.ListN.{length};
+ghost use Rattle.outcome.specs.Outcome.{refusedAs};
+ghost use Rattle.tessellate.specs.Gives.{Gives};
+ghost use Rattle.tessellate.specs.Steps.{Closes};
+use crate::Tessellated;
+use mesh::TriMesh;
+use refusal::Refusal;
+
+// Refused: counts 0, and every place of the three slices zero.
+pub fn refuse(
+    refusal: Refusal,
+    vertices: &mut [f64],
+    triangles: &mut [u32],
+    work: &mut [u32],
+) -> Tessellated
+    ensures { λ r. ⌜ Gives
+        (refusedAs refusal (length (now (vertices .entry))) (length (now (triangles .entry))) (length (now (work .entry))))
+        r (now (vertices .exit)) (now (triangles .exit)) (now (work .exit)) ⌝ }
+{
+    fill::clear_floats(vertices, 0);
+    fill::clear_numbers(triangles, 0);
+    fill::clear_numbers(work, 0);
+    Tessellated {
+        refusal,
+        mesh: TriMesh {
+            vertices: 0,
+            triangles: 0,
+        },
+    }
+}
+
+// Accepted: the mesh stays, every later place is zero, a broken last one included, and so is the work slice.
+pub fn accept(
+    counts: TriMesh,
+    vertices: &mut [f64],
+    triangles: &mut [u32],
+    work: &mut [u32],
+) -> Tessellated
+    requires { ⌜ (3 * counts .vertices ≤ length (now vertices)) × (3 * counts .triangles ≤ length (now triangles)) ⌝ }
+    ensures { λ r. ⌜ Closes counts (now (vertices .entry)) (now (triangles .entry)) (now (work .entry))
+        r (now (vertices .exit)) (now (triangles .exit)) (now (work .exit)) ⌝ }
+{
+    let n = counts.vertices;
+    let k = counts.triangles;
+    fill::clear_floats(vertices, 3 * n);
+    fill::clear_numbers(triangles, 3 * k);
+    fill::clear_numbers(work, 0);
+    Tessellated {
+        refusal: Refusal::Accepted,
+        mesh: counts,
+    }
+}

@@ -1,0 +1,68 @@
+// The call tessellate of src/tessellate.rs over lent memory: a shape with its list, its system, its resolution and its operations
+// becomes a mesh in the lent slices, or is refused.
+ghost use mathlib.Core.Path.{_≡_};
+ghost use lib.ListN.{length};
+ghost use Rattle.outcome.specs.Outcome.{tessellateOf, shortWork};
+ghost use Rattle.refusal.specs.Number.{numberOf};
+ghost use Rattle.tessellate.specs.Gives.{Gives, job};
+
+mod answers;
+mod draw;
+mod place;
+mod turn;
+
+use mesh::TriMesh;
+use refusal::Refusal;
+use shape::CoordSystem;
+use shape::OwnSystem;
+use shape::Shape;
+use shape::TessellationOptions;
+use transform::TransformOp;
+
+// What the call answers: refused or accepted, and the counts of the mesh, 0 where it was refused.
+pub struct Tessellated {
+    pub refusal: Refusal,
+    pub mesh: TriMesh,
+}
+
+// Refusal 6: fewer than two numbers of work for each whole vertex place.
+fn short_work(vertices: usize, work: usize) -> bool
+    ensures { λ r. ⌜ r ≡ shortWork vertices work ⌝ }
+{
+    work < 2 * (vertices / 3)
+}
+
+// tessellate: the mesh of a shape in the lent slices, three floats a vertex and three numbers a triangle.
+// `list` holds the boxes, corners or points of a shape that has some. The first `op_count` operations are applied, in their order;
+// `degrees` says whether their angles are in degrees.
+pub fn tessellate(
+    shape: Shape,
+    list: &[f64],
+    own: OwnSystem,
+    default: CoordSystem,
+    options: TessellationOptions,
+    degrees: bool,
+    ops: [TransformOp; 16],
+    op_count: usize,
+    vertices: &mut [f64],
+    triangles: &mut [u32],
+    work: &mut [u32],
+) -> Tessellated
+    ensures { λ r. ⌜ Gives
+        (tessellateOf (job shape (now (list .entry)) own default options degrees ops «op_count»)
+            (length (now (vertices .entry))) (length (now (triangles .entry))) (length (now (work .entry))))
+        r (now (vertices .exit)) (now (triangles .exit)) (now (work .exit)) ⌝ }
+{
+    if short_work(vertices.len(), work.len()) {
+        return answers::refuse(Refusal::ShortWork, vertices, triangles, work);
+    }
+    let refusal = shape::check_drawing(
+        shape, list, own, default, options, ops, op_count, degrees,
+    );
+    if 0 < refusal::number(refusal) {
+        return answers::refuse(refusal, vertices, triangles, work);
+    }
+    draw::draw(
+        shape, list, own, default, options, degrees, ops, op_count, vertices, triangles, work,
+    )
+}
