@@ -49,8 +49,8 @@ module _ (j : Job) (nv nt nw : ℕ) where
   pub drawing : (q : Refusal) → shortWork nv nw ≡ false → q ≡ jobRefusal j → 0 < numberOf q → refusedAs q nv nt nw ≡ tessellateOf j nv nt nw
   drawing q e eq h =
       sym (
-        by-tests false q (badSoup j) (tooFewPlaces (weldedMesh j) nv nt) e (sym eq) refl refl
-        ∙ drawn-first q (badSoup j) (tooFewPlaces (weldedMesh j) nv nt) (badVertex j) (finalMesh j) nv nt nw (ne-eqb (numberOf q) 0 (λ z. omega arith))
+      by-tests false q (badSoup j) (tooFewPlaces (weldedMesh j) nv nt) e (sym eq) refl refl
+      ∙ drawn-first q (badSoup j) (tooFewPlaces (weldedMesh j) nv nt) (badVertex j) (finalMesh j) nv nt nw (ne-eqb (numberOf q) 0 (λ z. omega arith))
       )
 
   module _ (D : Drawn j nv nw) where
@@ -75,8 +75,8 @@ module _ (j : Job) (nv nt nw : ℕ) where
     unfolding placedAs badVertex finalMesh
     placed e f =
         sym (
-          by-tests false Accepted false false (D .work) (D .drawing) e f
-          ∙ placing (ltb 0 (j .count)) (transform (folded (j .degrees) (take (j .count) (j .ops))) (weldedMesh j)) (weldedMesh j)
+        by-tests false Accepted false false (D .work) (D .drawing) e f
+        ∙ placing (ltb 0 (j .count)) (transform (folded (j .degrees) (take (j .count) (j .ops))) (weldedMesh j)) (weldedMesh j)
         )
 
 -- ---- the welded mesh

@@ -50,7 +50,7 @@ module _ (j : Job) (us vs : List Float) (ss ts xs ws : List ℕ) (D : Drawn j (l
     no-room e =
         refused-lengths NoRoom vs us ts ss ws xs lv lt lw
         ∙ full j (length us) (length ss) (length xs) D (soup-test j (w .finite) false (W .finite) fine)
-            (counted true (W .over (not-false (w .finite) fine) (not-true (w .room) e)))
+        (counted true (W .over (not-false (w .finite) fine) (not-true (w .room) e)))
 
     module _ (roomy : not (w .room) ≡ false) where
       held : state (countsOf w) vs ts ≡ stored (fromParts (jobParts j)) (state (countsOf w) vs ts)
@@ -67,4 +67,4 @@ module _ (j : Job) (us vs : List Float) (ss ts xs ws : List ℕ) (D : Drawn j (l
           (λ i. placedAs (j .ops) (j .count) (j .degrees) (turned (e i) (m i)) (lv i) (lt i) (lw i))
           ∙ sym (λ i. placedAs (j .ops) (j .count) (j .degrees) (welded-is j i) (length us) (length ss) (length xs))
           ∙ placed j (length us) (length ss) (length xs) D (soup-test j (w .finite) false (W .finite) fine)
-              (counted false (W .fits (not-false (w .finite) fine) (not-false (w .room) roomy)))
+          (counted false (W .fits (not-false (w .finite) fine) (not-false (w .room) roomy)))

@@ -16,7 +16,7 @@ use Rattle.mesh.specs.State.{State, state, stored}
 use Rattle.outcome.specs.Outcome.{Outcome, refusedAs, acceptedAs}
 use Rattle.tessellate.specs.declared.Tessellated.{Tessellated}
 use Rattle.tessellate.specs.Gives.{Gives}
-use Rattle.tessellate.specs.Steps.{Closes}
+use Rattle.tessellate.specs.Steps.{Keeps, Closes}
 
 -- a slice cleared from its start on
 pub cleared-all : {A : Type 0} (z : A) (l : List A) → clearedFrom z 0 l ≡ replicate (length l) z
@@ -30,16 +30,15 @@ pub gives-as : {o q : Outcome} {r : Tessellated} {vs : List Float} {ts ws : List
 gives-as {r} {vs} {ts} {ws} e g = subst (λ (x : Outcome). Gives x r vs ts ws) e g
 
 -- ---- refused
-pub refused-gives : (q : Refusal) (vs : List Float) (ts ws : List ℕ) (vs' : List Float) (ts' ws' : List ℕ)
-    → vs' ≡ clearedFrom (ofBits binary64 0) 0 vs → ts' ≡ clearedFrom 0 0 ts → ws' ≡ clearedFrom 0 0 ws
+pub refused-gives : (q : Refusal) (vs : List Float) (ts ws : List ℕ) (vs' : List Float) (ts' ws' : List ℕ) → Keeps 0 0 vs ts ws vs' ts' ws'
     → Gives (refusedAs q (length vs) (length ts) (length ws)) (record { refusal = q; mesh = record { vertices = 0; triangles = 0 } }) vs' ts' ws'
 unfolding refusedAs
-refused-gives q vs ts ws vs' ts' ws' ev et ew = record {
+refused-gives q vs ts ws vs' ts' ws' K = record {
   refusal = refl;
   mesh = refl;
-  vertices = ev ∙ cleared-all (ofBits binary64 0) vs;
-  triangles = et ∙ cleared-all 0 ts;
-  work = ew ∙ cleared-all 0 ws;
+  vertices = K .vertices ∙ cleared-all (ofBits binary64 0) vs;
+  triangles = K .triangles ∙ cleared-all 0 ts;
+  work = K .work ∙ cleared-all 0 ws;
 }
 
 -- the slices have kept their lengths
@@ -80,7 +79,7 @@ module _ (m : Mesh) (s : State) (counts : TriMesh) (vs : List Float) (ts ws : Li
   closes-gives r vs' ts' ws' C = record {
     refusal = C .refusal;
     mesh = C .mesh ∙ (λ j. record { vertices = vertices-counted j; triangles = triangles-counted j });
-    vertices = C .vertices ∙ (λ j. front-floats j ++ replicate (length vs - 3 * vertices-counted j) (ofBits binary64 0));
-    triangles = C .triangles ∙ (λ j. front-numbers j ++ replicate (length ts - 3 * triangles-counted j) 0);
-    work = C .work ∙ cleared-all 0 ws;
+    vertices = C .keeps .vertices ∙ (λ j. front-floats j ++ replicate (length vs - 3 * vertices-counted j) (ofBits binary64 0));
+    triangles = C .keeps .triangles ∙ (λ j. front-numbers j ++ replicate (length ts - 3 * triangles-counted j) 0);
+    work = C .keeps .work ∙ cleared-all 0 ws;
   }

@@ -29,9 +29,9 @@ pub lies : (m : Mesh) (s : State) → flatV (m .vertices) ≡ take (3 * s .mesh 
 unfolding stored
 lies m s fv nv ft nt =
     let v : s .vertices ≡ flatV (m .vertices) ++ drop (3 * length (m .vertices)) (s .vertices)
-          = sym (take-append-drop (3 * s .mesh .vertices) (s .vertices)) ∙ (λ j. sym fv j ++ drop (3 * sym nv j) (s .vertices)) in
+    = sym (take-append-drop (3 * s .mesh .vertices) (s .vertices)) ∙ (λ j. sym fv j ++ drop (3 * sym nv j) (s .vertices)) in
     let t : s .triangles ≡ flat (m .triangles) ++ drop (3 * length (m .triangles)) (s .triangles)
-          = sym (take-append-drop (3 * s .mesh .triangles) (s .triangles)) ∙ (λ j. sym ft j ++ drop (3 * sym nt j) (s .triangles)) in
+    = sym (take-append-drop (3 * s .mesh .triangles) (s .triangles)) ∙ (λ j. sym ft j ++ drop (3 * sym nt j) (s .triangles)) in
     λ j. state (record { vertices = sym nv j; triangles = sym nt j }) (v j) (t j)
 
 -- the mesh that the slices hold lies in them

@@ -100,7 +100,8 @@ listed (CylindricalShell start stop radius width) list o D = tt
 listed (Wire radius) list o D = tt
 
 -- ---- and what it tells
-pub parts-welded : (parts : List Soup) (r : Welder) (vs : List Float) (ts ws : List ℕ) (k : Held) → Begun r vs ws → PartsRun parts (held r vs ts ws) k → Welded parts (k .st) (k .vertices) (k .triangles)
+pub parts-welded : (parts : List Soup) (r : Welder) (vs : List Float) (ts ws : List ℕ) (k : Held)
+    → Begun r vs ws → PartsRun parts (held r vs ts ws) k → Welded parts (k .st) (k .vertices) (k .triangles)
 parts-welded parts r vs ts ws k B P =
     welded-all parts k (P .ready) (λ e. P .rep e noMesh (B .rep ts))
     (P .finite ∙ ap {B = Bool} (λ (b : Bool). b && partsFinite parts) (B .finite))

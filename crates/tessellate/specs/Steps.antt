@@ -62,13 +62,17 @@ pub record Whole (s : State) : Type 0 where
   pub sound : Sound s
   pub there : AllThere (meshOf s)
 
--- the answer of an accepted call: the counts, zeros after the counted places, a work slice of zeros
+-- the first n vertex places and k triangle places stay, zeros stand after them and in the work slice
+pub record Keeps (n k : ℕ) (vs : List Float) (ts ws : List ℕ) (vs' : List Float) (ts' ws' : List ℕ) : Type 0 where
+  pub vertices : vs' ≡ clearedFrom (ofBits binary64 0) (3 * n) vs
+  pub triangles : ts' ≡ clearedFrom 0 (3 * k) ts
+  pub work : ws' ≡ clearedFrom 0 0 ws
+
+-- the answer of an accepted call: the counts, and the counted places stay
 pub record Closes (counts : TriMesh) (vs : List Float) (ts ws : List ℕ) (r : Tessellated) (vs' : List Float) (ts' ws' : List ℕ) : Type 0 where
   pub refusal : r .refusal ≡ Accepted
   pub mesh : r .mesh ≡ counts
-  pub vertices : vs' ≡ clearedFrom (ofBits binary64 0) (3 * counts .vertices) vs
-  pub triangles : ts' ≡ clearedFrom 0 (3 * counts .triangles) ts
-  pub work : ws' ≡ clearedFrom 0 0 ws
+  pub keeps : Keeps (counts .vertices) (counts .triangles) vs ts ws vs' ts' ws'
 
 -- a mesh under a matrix: document 01's refusal 5 over the transformed vertices, or accepted
 unfoldable pub movedAs : Mat4 → Mesh → ℕ → ℕ → ℕ → Outcome

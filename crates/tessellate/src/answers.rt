@@ -4,10 +4,21 @@ ghost use Prim.Native.Nat.{_*_, _≤_};
 ghost use lib.ListN.{length};
 ghost use Rattle.outcome.specs.Outcome.{refusedAs};
 ghost use Rattle.tessellate.specs.Gives.{Gives};
-ghost use Rattle.tessellate.specs.Steps.{Closes};
+ghost use Rattle.tessellate.specs.Steps.{Keeps, Closes};
 use crate::Tessellated;
 use mesh::TriMesh;
 use refusal::Refusal;
+
+// The counted places stay. Every later place is zero, a broken last one included, and so is the work slice.
+fn keep(n: usize, k: usize, vertices: &mut [f64], triangles: &mut [u32], work: &mut [u32])
+    requires { ⌜ (3 * n ≤ length (now vertices)) × (3 * k ≤ length (now triangles)) ⌝ }
+    ensures { λ _. ⌜ Keeps n k (now (vertices .entry)) (now (triangles .entry)) (now (work .entry))
+        (now (vertices .exit)) (now (triangles .exit)) (now (work .exit)) ⌝ }
+{
+    fill::clear_floats(vertices, 3 * n);
+    fill::clear_numbers(triangles, 3 * k);
+    fill::clear_numbers(work, 0);
+}
 
 // Refused: counts 0, and every place of the three slices zero.
 pub fn refuse(
@@ -20,9 +31,7 @@ pub fn refuse(
         (refusedAs refusal (length (now (vertices .entry))) (length (now (triangles .entry))) (length (now (work .entry))))
         r (now (vertices .exit)) (now (triangles .exit)) (now (work .exit)) ⌝ }
 {
-    fill::clear_floats(vertices, 0);
-    fill::clear_numbers(triangles, 0);
-    fill::clear_numbers(work, 0);
+    keep(0, 0, vertices, triangles, work);
     Tessellated {
         refusal,
         mesh: TriMesh {
@@ -32,7 +41,7 @@ pub fn refuse(
     }
 }
 
-// Accepted: the mesh stays, every later place is zero, a broken last one included, and so is the work slice.
+// Accepted: the mesh stays.
 pub fn accept(
     counts: TriMesh,
     vertices: &mut [f64],
@@ -43,11 +52,7 @@ pub fn accept(
     ensures { λ r. ⌜ Closes counts (now (vertices .entry)) (now (triangles .entry)) (now (work .entry))
         r (now (vertices .exit)) (now (triangles .exit)) (now (work .exit)) ⌝ }
 {
-    let n = counts.vertices;
-    let k = counts.triangles;
-    fill::clear_floats(vertices, 3 * n);
-    fill::clear_numbers(triangles, 3 * k);
-    fill::clear_numbers(work, 0);
+    keep(counts.vertices, counts.triangles, vertices, triangles, work);
     Tessellated {
         refusal: Refusal::Accepted,
         mesh: counts,

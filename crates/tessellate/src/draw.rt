@@ -34,7 +34,16 @@ fn weld_all(
 {
     fill::clear_numbers(work, 0);
     let w = weld::begin(vertices, work);
-    solids::weld_shape(vertices, triangles, work, w, shape, list, cylindrical, options)
+    solids::weld_shape(
+        vertices,
+        triangles,
+        work,
+        w,
+        shape,
+        list,
+        cylindrical,
+        options,
+    )
 }
 
 // The parts welded, then refusals 5 and 7, then the mesh to its end.
@@ -54,7 +63,7 @@ pub fn draw(
     requires { ⌜ Drawn (job shape (now list) own default options degrees ops «op_count») (length (now vertices)) (length (now work)) ⌝ }
     ensures { λ r. ⌜ Gives
         (tessellateOf (job shape (now (list .entry)) own default options degrees ops «op_count»)
-            (length (now (vertices .entry))) (length (now (triangles .entry))) (length (now (work .entry))))
+        (length (now (vertices .entry))) (length (now (triangles .entry))) (length (now (work .entry))))
         r (now (vertices .exit)) (now (triangles .exit)) (now (work .exit)) ⌝ }
 {
     let cylindrical = shape::is_cylindrical(shape::shape_cs(shape, own, default));
@@ -73,6 +82,13 @@ pub fn draw(
         triangles: w.faces,
     };
     place::complete(
-        rotated, counts, vertices, triangles, work, ops, op_count, degrees,
+        rotated,
+        counts,
+        vertices,
+        triangles,
+        work,
+        ops,
+        op_count,
+        degrees,
     )
 }

@@ -50,19 +50,29 @@ pub fn tessellate(
 ) -> Tessellated
     ensures { λ r. ⌜ Gives
         (tessellateOf (job shape (now (list .entry)) own default options degrees ops «op_count»)
-            (length (now (vertices .entry))) (length (now (triangles .entry))) (length (now (work .entry))))
+        (length (now (vertices .entry))) (length (now (triangles .entry))) (length (now (work .entry))))
         r (now (vertices .exit)) (now (triangles .exit)) (now (work .exit)) ⌝ }
 {
-    if short_work(vertices.len(), work.len()) {
+    let short = short_work(vertices.len(), work.len());
+    let refusal = shape::check_drawing(shape, list, own, default, options, ops, op_count, degrees);
+    let number = refusal::number(refusal);
+    if short {
         return answers::refuse(Refusal::ShortWork, vertices, triangles, work);
     }
-    let refusal = shape::check_drawing(
-        shape, list, own, default, options, ops, op_count, degrees,
-    );
-    if 0 < refusal::number(refusal) {
+    if 0 < number {
         return answers::refuse(refusal, vertices, triangles, work);
     }
     draw::draw(
-        shape, list, own, default, options, degrees, ops, op_count, vertices, triangles, work,
+        shape,
+        list,
+        own,
+        default,
+        options,
+        degrees,
+        ops,
+        op_count,
+        vertices,
+        triangles,
+        work,
     )
 }

@@ -39,7 +39,7 @@ fn moved(
     requires { ⌜ Sound (state counts (now vertices) (now triangles)) ⌝ }
     ensures { λ r. ⌜ Gives
         (movedAs a (meshOf (state counts (now (vertices .entry)) (now (triangles .entry))))
-            (length (now (vertices .entry))) (length (now (triangles .entry))) (length (now (work .entry))))
+        (length (now (vertices .entry))) (length (now (triangles .entry))) (length (now (work .entry))))
         r (now (vertices .exit)) (now (triangles .exit)) (now (work .exit)) ⌝ }
 {
     let n = counts.vertices;
@@ -63,11 +63,17 @@ fn placed(
     requires { ⌜ Sound (state counts (now vertices) (now triangles)) ⌝ }
     ensures { λ r. ⌜ Gives
         (placedAs ops «op_count» degrees (meshOf (state counts (now (vertices .entry)) (now (triangles .entry))))
-            (length (now (vertices .entry))) (length (now (triangles .entry))) (length (now (work .entry))))
+        (length (now (vertices .entry))) (length (now (triangles .entry))) (length (now (work .entry))))
         r (now (vertices .exit)) (now (triangles .exit)) (now (work .exit)) ⌝ }
 {
     if 0 < op_count {
-        return moved(counts, vertices, triangles, work, transform::fold(ops, op_count, degrees));
+        return moved(
+            counts,
+            vertices,
+            triangles,
+            work,
+            transform::fold(ops, op_count, degrees),
+        );
     }
     answers::accept(counts, vertices, triangles, work)
 }
@@ -86,7 +92,7 @@ pub fn complete(
     requires { ⌜ Whole (state counts (now vertices) (now triangles)) ⌝ }
     ensures { λ r. ⌜ Gives
         (placedAs ops «op_count» degrees (turned rotated (meshOf (state counts (now (vertices .entry)) (now (triangles .entry)))))
-            (length (now (vertices .entry))) (length (now (triangles .entry))) (length (now (work .entry))))
+        (length (now (vertices .entry))) (length (now (triangles .entry))) (length (now (work .entry))))
         r (now (vertices .exit)) (now (triangles .exit)) (now (work .exit)) ⌝ }
 {
     if rotated {

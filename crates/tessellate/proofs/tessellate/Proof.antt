@@ -17,6 +17,12 @@ use Rattle.tessellate.proofs.tessellate.Tie as tie
 short-work-requires : tie.Need-short-work-requires
 short-work-requires c κs = search needs
 
+check-drawing-requires : tie.Need-check-drawing-requires
+check-drawing-requires c κs = search needs
+
+number-requires : tie.Need-number-requires
+number-requires c κs = search needs
+
 refuse-requires : tie.Need-refuse-requires
 refuse-requires c κs = search needs
 
@@ -31,15 +37,13 @@ same-length-3 c = search needs
 
 returns : tie.Need-returns
 returns c =
-    let a = c .before .before .before .before .before .before .before .before .before .before .before .before .before .before .before .before .args in
+    let c6 = c .before .before .before .before .before .before in
+    let c10 = c6 .before .before .before .before in
+    let c13 = c10 .before .before .before in
+    let c18 = c13 .before .before .before .before .before in
+    let a = c18 .args in
     let j = job (a .shape) (now (a .list)) (a .own) (a .default) (a .options) (a .degrees) (a .ops) (a .op-count) in
-    gives-as (short j (length (now (a .vertices))) (length (now (a .triangles))) (length (now (a .work))) (sym (c .before .before .before .before .before .before .before .before .before .before .before .short-work .ensures) ∙ c .before .before .before .before .before .before .before .before .before .before .if1 .taken)) (c .before .before .before .before .before .before .refuse .ensures)
-
-check-drawing-requires : tie.Need-check-drawing-requires
-check-drawing-requires c κs = search needs
-
-number-requires : tie.Need-number-requires
-number-requires c κs = search needs
+    gives-as (short j (length (now (a .vertices))) (length (now (a .triangles))) (length (now (a .work))) (sym (c13 .short-work .ensures) ∙ c10 .if1 .taken)) (c6 .refuse .ensures)
 
 refuse-requires-2 : tie.Need-refuse-requires-2
 refuse-requires-2 c κs = search needs
@@ -56,18 +60,33 @@ same-length-6 c = search needs
 returns-2 : tie.Need-returns-2
 unfolding jobRefusal
 returns-2 c =
-    let a = c .before .before .before .before .before .before .before .before .before .before .before .before .before .before .before .before .before .before .before .args in
+    let c6 = c .before .before .before .before .before .before in
+    let c10 = c6 .before .before .before .before in
+    let c11 = c10 .before in
+    let c12 = c11 .before in
+    let c13 = c12 .before in
+    let c14 = c13 .before in
+    let c19 = c14 .before .before .before .before .before in
+    let a = c19 .args in
     let j = job (a .shape) (now (a .list)) (a .own) (a .default) (a .options) (a .degrees) (a .ops) (a .op-count) in
-    gives-as (drawing j (length (now (a .vertices))) (length (now (a .triangles))) (length (now (a .work))) (c .before .before .before .before .before .before .before .before .before .before .before .before .check-drawing .result) (sym (c .before .before .before .before .before .before .before .before .before .before .before .before .before .before .short-work .ensures) ∙ c .before .before .before .before .before .before .before .before .before .before .before .before .before .if1 .left) (c .before .before .before .before .before .before .before .before .before .before .before .before .check-drawing .ensures) (omega (arith, c .before .before .before .before .before .before .before .before .before .before .before .number .ensures, c .before .before .before .before .before .before .before .before .before .before .if2 .taken))) (c .before .before .before .before .before .before .refuse2 .ensures)
+    gives-as
+    (drawing j (length (now (a .vertices))) (length (now (a .triangles))) (length (now (a .work)))
+    (c13 .check-drawing .result) (sym (c14 .short-work .ensures) ∙ c11 .if1 .left) (c13 .check-drawing .ensures) (omega (arith, c12 .number .ensures, c10 .if2 .taken))) (c6 .refuse2 .ensures)
 
 draw-requires : tie.Need-draw-requires
 unfolding jobRefusal
 draw-requires c κs =
-    let a = c .before .before .before .before .before .before .before .before .before .before .before .before .args in
+    let c3 = c .before .before .before in
+    let c4 = c3 .before in
+    let c5 = c4 .before in
+    let c6 = c5 .before in
+    let c7 = c6 .before in
+    let c12 = c7 .before .before .before .before .before in
+    let a = c12 .args in
     let j = job (a .shape) (now (a .list)) (a .own) (a .default) (a .options) (a .degrees) (a .ops) (a .op-count) in
     record {
-      work = sym (c .before .before .before .before .before .before .before .short-work .ensures) ∙ c .before .before .before .before .before .before .if1 .left;
-      drawing = sym (c .before .before .before .before .before .check-drawing .ensures) ∙ accepted-zero (c .before .before .before .before .before .check-drawing .result) (omega (arith, c .before .before .before .before .number .ensures, c .before .before .before .if2 .left));
+      work = sym (c7 .short-work .ensures) ∙ c4 .if1 .left;
+      drawing = sym (c6 .check-drawing .ensures) ∙ accepted-zero (c6 .check-drawing .result) (omega (arith, c5 .number .ensures, c3 .if2 .left));
     }
 
 same-length-7 : tie.Need-same-length-7
@@ -87,13 +106,13 @@ tessellate-spec =
     tie.close
     (tie.spec
     short-work-requires
+    check-drawing-requires
+    number-requires
     refuse-requires
     same-length
     same-length-2
     same-length-3
     returns
-    check-drawing-requires
-    number-requires
     refuse-requires-2
     same-length-4
     same-length-5

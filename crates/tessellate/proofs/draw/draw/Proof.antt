@@ -20,9 +20,10 @@ is-rot-poly-requires c κs = search needs
 
 weld-all-requires : tie.Need-weld-all-requires
 weld-all-requires c κs =
-    let a = c .before .before .before .before .before .before .before .before .before .before .args in
+    let c10 = c .before .before .before .before .before .before .before .before .before .before in
+    let a = c10 .args in
     let j = job (a .shape) (now (a .list)) (a .own) (a .default) (a .options) (a .degrees) (a .ops) (a .op-count) in
-    (drawable j (c .before .before .before .before .before .before .before .before .before .before .pre .drawing), c .before .before .before .before .before .before .before .before .before .before .pre .work)
+    (drawable j (c10 .pre .drawing), c10 .pre .work)
 
 refuse-requires : tie.Need-refuse-requires
 refuse-requires c κs = search needs
@@ -38,17 +39,25 @@ same-length-3 c = search needs
 
 returns : tie.Need-returns
 returns c =
-    let a = c .before .before .before .before .before .before .before .before .before .before .before .before .before .before .before .before .before .before .before .before .before .before .before .before .before .before .before .before .args in
+    let c6 = c .before .before .before .before .before .before in
+    let c10 = c6 .before .before .before .before in
+    let c17 = c10 .before .before .before .before .before .before .before in
+    let c22 = c17 .before .before .before .before .before in
+    let c23 = c22 .before in
+    let c28 = c23 .before .before .before .before .before in
+    let a = c28 .args in
     let j = job (a .shape) (now (a .list)) (a .own) (a .default) (a .options) (a .degrees) (a .ops) (a .op-count) in
-    let vs = c .before .before .before .before .before .before .before .before .before .before .before .before .before .before .before .before .before .weld-all .last .0 in
-    let ts = c .before .before .before .before .before .before .before .before .before .before .before .before .before .before .before .before .before .weld-all .last .1 .0 in
-    let ws = c .before .before .before .before .before .before .before .before .before .before .before .before .before .before .before .before .before .weld-all .last .1 .1 .0 in
+    let vs = c17 .weld-all .last .0 in
+    let ts = c17 .weld-all .last .1 .0 in
+    let ws = c17 .weld-all .last .1 .1 .0 in
     let lv : length vs ≡ length (now (a .vertices)) = search needs in
     let lt : length ts ≡ length (now (a .triangles)) = search needs in
     let lw : length ws ≡ length (now (a .work)) = search needs in
-    let w = c .before .before .before .before .before .before .before .before .before .before .before .before .before .before .before .before .before .weld-all .result in
-    let W = welded-parts j (c .before .before .before .before .before .before .before .before .before .before .before .before .before .before .before .before .before .before .before .before .before .before .before .shape-cs .result) (c .before .before .before .before .before .before .before .before .before .before .before .before .before .before .before .before .before .before .before .before .before .before .is-cylindrical .result) w vs ts (c .before .before .before .before .before .before .before .before .before .before .before .before .before .before .before .before .before .before .before .before .before .before .before .shape-cs .ensures) (c .before .before .before .before .before .before .before .before .before .before .before .before .before .before .before .before .before .before .before .before .before .before .is-cylindrical .ensures) (c .before .before .before .before .before .before .before .before .before .before .before .before .before .before .before .before .before .weld-all .ensures) in
-    gives-as (not-finite j (now (a .vertices)) vs (now (a .triangles)) ts (now (a .work)) ws (c .before .before .before .before .before .before .before .before .before .before .before .before .before .before .before .before .before .before .before .before .before .before .before .before .before .before .before .before .pre) w W lv lt lw (c .before .before .before .before .before .before .before .before .before .before .if1 .taken)) (c .before .before .before .before .before .before .refuse .ensures)
+    let w = c17 .weld-all .result in
+    let W = welded-parts j (c23 .shape-cs .result) (c22 .is-cylindrical .result) w vs ts
+    (c23 .shape-cs .ensures) (c22 .is-cylindrical .ensures) (c17 .weld-all .ensures) in
+    gives-as (not-finite j (now (a .vertices)) vs (now (a .triangles)) ts (now (a .work)) ws (c28 .pre) w W lv lt lw
+    (c10 .if1 .taken)) (c6 .refuse .ensures)
 
 refuse-requires-2 : tie.Need-refuse-requires-2
 refuse-requires-2 c κs = search needs
@@ -64,31 +73,48 @@ same-length-6 c = search needs
 
 returns-2 : tie.Need-returns-2
 returns-2 c =
-    let a = c .before .before .before .before .before .before .before .before .before .before .before .before .before .before .before .before .before .before .before .before .before .before .before .before .before .before .before .before .before .args in
+    let c6 = c .before .before .before .before .before .before in
+    let c10 = c6 .before .before .before .before in
+    let c11 = c10 .before in
+    let c18 = c11 .before .before .before .before .before .before .before in
+    let c23 = c18 .before .before .before .before .before in
+    let c24 = c23 .before in
+    let c29 = c24 .before .before .before .before .before in
+    let a = c29 .args in
     let j = job (a .shape) (now (a .list)) (a .own) (a .default) (a .options) (a .degrees) (a .ops) (a .op-count) in
-    let vs = c .before .before .before .before .before .before .before .before .before .before .before .before .before .before .before .before .before .before .weld-all .last .0 in
-    let ts = c .before .before .before .before .before .before .before .before .before .before .before .before .before .before .before .before .before .before .weld-all .last .1 .0 in
-    let ws = c .before .before .before .before .before .before .before .before .before .before .before .before .before .before .before .before .before .before .weld-all .last .1 .1 .0 in
+    let vs = c18 .weld-all .last .0 in
+    let ts = c18 .weld-all .last .1 .0 in
+    let ws = c18 .weld-all .last .1 .1 .0 in
     let lv : length vs ≡ length (now (a .vertices)) = search needs in
     let lt : length ts ≡ length (now (a .triangles)) = search needs in
     let lw : length ws ≡ length (now (a .work)) = search needs in
-    let w = c .before .before .before .before .before .before .before .before .before .before .before .before .before .before .before .before .before .before .weld-all .result in
-    let W = welded-parts j (c .before .before .before .before .before .before .before .before .before .before .before .before .before .before .before .before .before .before .before .before .before .before .before .before .shape-cs .result) (c .before .before .before .before .before .before .before .before .before .before .before .before .before .before .before .before .before .before .before .before .before .before .before .is-cylindrical .result) w vs ts (c .before .before .before .before .before .before .before .before .before .before .before .before .before .before .before .before .before .before .before .before .before .before .before .before .shape-cs .ensures) (c .before .before .before .before .before .before .before .before .before .before .before .before .before .before .before .before .before .before .before .before .before .before .before .is-cylindrical .ensures) (c .before .before .before .before .before .before .before .before .before .before .before .before .before .before .before .before .before .before .weld-all .ensures) in
-    gives-as (no-room j (now (a .vertices)) vs (now (a .triangles)) ts (now (a .work)) ws (c .before .before .before .before .before .before .before .before .before .before .before .before .before .before .before .before .before .before .before .before .before .before .before .before .before .before .before .before .before .pre) w W lv lt lw (c .before .before .before .before .before .before .before .before .before .before .before .if1 .left) (c .before .before .before .before .before .before .before .before .before .before .if2 .taken)) (c .before .before .before .before .before .before .refuse2 .ensures)
+    let w = c18 .weld-all .result in
+    let W = welded-parts j (c24 .shape-cs .result) (c23 .is-cylindrical .result) w vs ts
+    (c24 .shape-cs .ensures) (c23 .is-cylindrical .ensures) (c18 .weld-all .ensures) in
+    gives-as (no-room j (now (a .vertices)) vs (now (a .triangles)) ts (now (a .work)) ws (c29 .pre) w W lv lt lw
+    (c11 .if1 .left) (c10 .if2 .taken)) (c6 .refuse2 .ensures)
 
 complete-requires : tie.Need-complete-requires
 complete-requires c κs =
-    let a = c .before .before .before .before .before .before .before .before .before .before .before .before .before .before .before .before .before .before .before .before .before .before .args in
+    let c3 = c .before .before .before in
+    let c4 = c3 .before in
+    let c11 = c4 .before .before .before .before .before .before .before in
+    let c16 = c11 .before .before .before .before .before in
+    let c17 = c16 .before in
+    let c22 = c17 .before .before .before .before .before in
+    let a = c22 .args in
     let j = job (a .shape) (now (a .list)) (a .own) (a .default) (a .options) (a .degrees) (a .ops) (a .op-count) in
-    let vs = c .before .before .before .before .before .before .before .before .before .before .before .weld-all .last .0 in
-    let ts = c .before .before .before .before .before .before .before .before .before .before .before .weld-all .last .1 .0 in
-    let ws = c .before .before .before .before .before .before .before .before .before .before .before .weld-all .last .1 .1 .0 in
+    let vs = c11 .weld-all .last .0 in
+    let ts = c11 .weld-all .last .1 .0 in
+    let ws = c11 .weld-all .last .1 .1 .0 in
     let lv : length vs ≡ length (now (a .vertices)) = search needs in
     let lt : length ts ≡ length (now (a .triangles)) = search needs in
     let lw : length ws ≡ length (now (a .work)) = search needs in
-    let w = c .before .before .before .before .before .before .before .before .before .before .before .weld-all .result in
-    let W = welded-parts j (c .before .before .before .before .before .before .before .before .before .before .before .before .before .before .before .before .before .shape-cs .result) (c .before .before .before .before .before .before .before .before .before .before .before .before .before .before .before .before .is-cylindrical .result) w vs ts (c .before .before .before .before .before .before .before .before .before .before .before .before .before .before .before .before .before .shape-cs .ensures) (c .before .before .before .before .before .before .before .before .before .before .before .before .before .before .before .before .is-cylindrical .ensures) (c .before .before .before .before .before .before .before .before .before .before .before .weld-all .ensures) in
-    whole j (now (a .vertices)) vs (now (a .triangles)) ts (now (a .work)) ws (c .before .before .before .before .before .before .before .before .before .before .before .before .before .before .before .before .before .before .before .before .before .before .pre) w W lv lt lw (c .before .before .before .before .if1 .left) (c .before .before .before .if2 .left)
+    let w = c11 .weld-all .result in
+    let W = welded-parts j (c17 .shape-cs .result) (c16 .is-cylindrical .result) w vs ts
+    (c17 .shape-cs .ensures) (c16 .is-cylindrical .ensures) (c11 .weld-all .ensures) in
+    whole j (now (a .vertices)) vs (now (a .triangles)) ts (now (a .work)) ws (c22 .pre) w W lv lt lw
+    (c4 .if1 .left) (c3 .if2 .left)
 
 same-length-7 : tie.Need-same-length-7
 same-length-7 c = search needs
@@ -101,17 +127,27 @@ same-length-9 c = search needs
 
 returns-3 : tie.Need-returns-3
 returns-3 c =
-    let a = c .before .before .before .before .before .before .before .before .before .before .before .before .before .before .before .before .before .before .before .before .before .before .before .before .before .before .before .before .before .args in
+    let c6 = c .before .before .before .before .before .before in
+    let c10 = c6 .before .before .before .before in
+    let c11 = c10 .before in
+    let c18 = c11 .before .before .before .before .before .before .before in
+    let c22 = c18 .before .before .before .before in
+    let c23 = c22 .before in
+    let c24 = c23 .before in
+    let c29 = c24 .before .before .before .before .before in
+    let a = c29 .args in
     let j = job (a .shape) (now (a .list)) (a .own) (a .default) (a .options) (a .degrees) (a .ops) (a .op-count) in
-    let vs = c .before .before .before .before .before .before .before .before .before .before .before .before .before .before .before .before .before .before .weld-all .last .0 in
-    let ts = c .before .before .before .before .before .before .before .before .before .before .before .before .before .before .before .before .before .before .weld-all .last .1 .0 in
-    let ws = c .before .before .before .before .before .before .before .before .before .before .before .before .before .before .before .before .before .before .weld-all .last .1 .1 .0 in
+    let vs = c18 .weld-all .last .0 in
+    let ts = c18 .weld-all .last .1 .0 in
+    let ws = c18 .weld-all .last .1 .1 .0 in
     let lv : length vs ≡ length (now (a .vertices)) = search needs in
     let lt : length ts ≡ length (now (a .triangles)) = search needs in
     let lw : length ws ≡ length (now (a .work)) = search needs in
-    let w = c .before .before .before .before .before .before .before .before .before .before .before .before .before .before .before .before .before .before .weld-all .result in
-    let W = welded-parts j (c .before .before .before .before .before .before .before .before .before .before .before .before .before .before .before .before .before .before .before .before .before .before .before .before .shape-cs .result) (c .before .before .before .before .before .before .before .before .before .before .before .before .before .before .before .before .before .before .before .before .before .before .before .is-cylindrical .result) w vs ts (c .before .before .before .before .before .before .before .before .before .before .before .before .before .before .before .before .before .before .before .before .before .before .before .before .shape-cs .ensures) (c .before .before .before .before .before .before .before .before .before .before .before .before .before .before .before .before .before .before .before .before .before .before .before .is-cylindrical .ensures) (c .before .before .before .before .before .before .before .before .before .before .before .before .before .before .before .before .before .before .weld-all .ensures) in
-    gives-as (done j (now (a .vertices)) vs (now (a .triangles)) ts (now (a .work)) ws (c .before .before .before .before .before .before .before .before .before .before .before .before .before .before .before .before .before .before .before .before .before .before .before .before .before .before .before .before .before .pre) w W lv lt lw (c .before .before .before .before .before .before .before .before .before .before .before .if1 .left) (c .before .before .before .before .before .before .before .before .before .before .if2 .left) (c .before .before .before .before .before .before .before .before .before .before .before .before .before .before .before .before .before .before .before .before .before .before .is-rot-poly .result) (c .before .before .before .before .before .before .before .before .before .before .before .before .before .before .before .before .before .before .before .before .before .before .is-rot-poly .ensures)) (c .before .before .before .before .before .before .complete .ensures)
+    let w = c18 .weld-all .result in
+    let W = welded-parts j (c24 .shape-cs .result) (c23 .is-cylindrical .result) w vs ts
+    (c24 .shape-cs .ensures) (c23 .is-cylindrical .ensures) (c18 .weld-all .ensures) in
+    gives-as (done j (now (a .vertices)) vs (now (a .triangles)) ts (now (a .work)) ws (c29 .pre) w W lv lt lw
+    (c11 .if1 .left) (c10 .if2 .left) (c22 .is-rot-poly .result) (c22 .is-rot-poly .ensures)) (c6 .complete .ensures)
 
 pub draw-spec : {M : Type 1} → statement M
 draw-spec =

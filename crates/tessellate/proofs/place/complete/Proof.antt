@@ -19,10 +19,12 @@ turn-outward-requires c κs = search needs
 
 placed-requires : tie.Need-placed-requires
 placed-requires c κs =
-    let a = c .before .before .before .before .before .before .before .before .before .before .before .before .args in
+    let c5 = c .before .before .before .before .before in
+    let c12 = c5 .before .before .before .before .before .before .before in
+    let a = c12 .args in
     let s = state (a .counts) (now (a .vertices)) (now (a .triangles)) in
-    let t = state (a .counts) (now (a .vertices)) (c .before .before .before .before .before .turn-outward .last .1 .1 .0) in
-    stored-whole (outward (meshOf s)) t s (c .before .before .before .before .before .turn-outward .ensures) (outward-there (meshOf s) (c .before .before .before .before .before .before .before .before .before .before .before .before .pre .there)) .sound
+    let t = state (a .counts) (now (a .vertices)) (c5 .turn-outward .last .1 .1 .0) in
+    stored-whole (outward (meshOf s)) t s (c5 .turn-outward .ensures) (outward-there (meshOf s) (c12 .pre .there)) .sound
 
 same-length : tie.Need-same-length
 same-length c = search needs
@@ -35,12 +37,19 @@ same-length-3 c = search needs
 
 returns : tie.Need-returns
 returns c =
-    let a = c .before .before .before .before .before .before .before .before .before .before .before .before .before .before .before .before .before .before .before .args in
+    let c6 = c .before .before .before .before .before .before in
+    let c12 = c6 .before .before .before .before .before .before in
+    let c15 = c12 .before .before .before in
+    let c19 = c15 .before .before .before .before in
+    let a = c19 .args in
     let s = state (a .counts) (now (a .vertices)) (now (a .triangles)) in
-    let t = state (a .counts) (now (a .vertices)) (c .before .before .before .before .before .before .before .before .before .before .before .before .turn-outward .last .1 .1 .0) in
-    let l : length (c .before .before .before .before .before .before .before .before .before .before .before .before .turn-outward .last .1 .1 .0) ≡ length (now (a .triangles)) = search needs in
-    let p : meshOf t ≡ turned (a .rotated) (meshOf s) = mesh-is (outward (meshOf s)) t s (c .before .before .before .before .before .before .before .before .before .before .before .before .turn-outward .ensures) ∙ sym (ap {B = Mesh} (λ (b : Bool). turned b (meshOf s)) (c .before .before .before .before .before .before .before .before .before .before .before .before .before .before .before .if1 .taken)) in
-    gives-as (λ i. placedAs (a .ops) (a .op-count) (a .degrees) (p i) (length (now (a .vertices))) (l i) (length (now (a .work)))) (c .before .before .before .before .before .before .placed .ensures)
+    let t = state (a .counts) (now (a .vertices)) (c12 .turn-outward .last .1 .1 .0) in
+    let l : length (c12 .turn-outward .last .1 .1 .0) ≡ length (now (a .triangles)) = search needs in
+    let p : meshOf t ≡ turned (a .rotated) (meshOf s) =
+    mesh-is (outward (meshOf s)) t s (c12 .turn-outward .ensures)
+    ∙ sym (ap {B = Mesh} (λ (b : Bool). turned b (meshOf s)) (c15 .if1 .taken)) in
+    gives-as (λ i. placedAs (a .ops) (a .op-count) (a .degrees) (p i)
+    (length (now (a .vertices))) (l i) (length (now (a .work)))) (c6 .placed .ensures)
 
 placed-requires-2 : tie.Need-placed-requires-2
 placed-requires-2 c κs = search needs
@@ -56,10 +65,14 @@ same-length-6 c = search needs
 
 returns-2 : tie.Need-returns-2
 returns-2 c =
-    let a = c .before .before .before .before .before .before .before .before .before .before .before .before .before .before .args in
+    let c6 = c .before .before .before .before .before .before in
+    let c10 = c6 .before .before .before .before in
+    let c14 = c10 .before .before .before .before in
+    let a = c14 .args in
     let s = state (a .counts) (now (a .vertices)) (now (a .triangles)) in
-    let p : meshOf s ≡ turned (a .rotated) (meshOf s) = sym (ap {B = Mesh} (λ (b : Bool). turned b (meshOf s)) (c .before .before .before .before .before .before .before .before .before .before .if1 .left)) in
-    gives-as (λ i. placedAs (a .ops) (a .op-count) (a .degrees) (p i) (length (now (a .vertices))) (length (now (a .triangles))) (length (now (a .work)))) (c .before .before .before .before .before .before .placed2 .ensures)
+    let p : meshOf s ≡ turned (a .rotated) (meshOf s) = sym (ap {B = Mesh} (λ (b : Bool). turned b (meshOf s)) (c10 .if1 .left)) in
+    gives-as (λ i. placedAs (a .ops) (a .op-count) (a .degrees) (p i)
+    (length (now (a .vertices))) (length (now (a .triangles))) (length (now (a .work)))) (c6 .placed2 .ensures)
 
 pub complete-spec : {M : Type 1} → statement M
 complete-spec =

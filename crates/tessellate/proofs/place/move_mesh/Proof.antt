@@ -23,18 +23,24 @@ same-length-2 c = search needs
 
 returns : tie.Need-returns
 returns c =
-    let a = c .before .before .before .before .before .before .before .before .before .before .before .before .args in
+    let c4 = c .before .before .before .before in
+    let c5 = c4 .before in
+    let c8 = c5 .before .before .before in
+    let c12 = c8 .before .before .before .before in
+    let a = c12 .args in
     let s = state (a .counts) (now (a .vertices)) (now (a .triangles)) in
-    mirrored s (c .before .before .before .before .before .before .before .before .before .before .before .before .pre) (a .a) (c .before .before .before .before .before .determinant .result) (c .before .before .before .before .before .determinant .ensures) _ (c .before .before .before .before .before .before .before .before .move-all .ensures) _ (c .before .before .before .before .if1 .taken) (c .before .before .turn-all .ensures)
+    mirrored s (c12 .pre) (a .a) (c5 .determinant .result) (c5 .determinant .ensures) _ (c8 .move-all .ensures) _ (c4 .if1 .taken) (c .before .before .turn-all .ensures)
 
 same-length-3 : tie.Need-same-length-3
 same-length-3 c = search needs
 
 returns-2 : tie.Need-returns-2
 returns-2 c =
-    let a = c .before .before .before .before .before .before .before .before .args in
+    let c4 = c .before .before .before .before in
+    let c8 = c4 .before .before .before .before in
+    let a = c8 .args in
     let s = state (a .counts) (now (a .vertices)) (now (a .triangles)) in
-    only-moved s (c .before .before .before .before .before .before .before .before .pre) (a .a) (c .before .determinant .result) (c .before .determinant .ensures) _ (c .before .before .before .before .move-all .ensures) (c .if1 .left)
+    only-moved s (c8 .pre) (a .a) (c .before .determinant .result) (c .before .determinant .ensures) _ (c4 .move-all .ensures) (c .if1 .left)
 
 pub move-mesh-spec : {M : Type 1} → statement M
 move-mesh-spec =

@@ -28,9 +28,15 @@ same-length-3 c = search needs
 
 returns : tie.Need-returns
 returns c =
-    let a = c .before .before .before .before .before .before .before .before .before .before .before .before .before .before .before .before .args in
+    let c6 = c .before .before .before .before .before .before in
+    let c10 = c6 .before .before .before .before in
+    let c11 = c10 .before in
+    let c16 = c11 .before .before .before .before .before in
+    let a = c16 .args in
     let s = state (a .counts) (now (a .vertices)) (now (a .triangles)) in
-    gives-as (moved-refused (a .a) s (c .before .before .before .before .before .before .before .before .before .before .before .stay-finite .result) (c .before .before .before .before .before .before .before .before .before .before .before .stay-finite .ensures) (length (now (a .vertices))) (length (now (a .triangles))) (length (now (a .work))) (not-true (c .before .before .before .before .before .before .before .before .before .before .before .stay-finite .result) (c .before .before .before .before .before .before .before .before .before .before .if1 .taken))) (c .before .before .before .before .before .before .refuse .ensures)
+    gives-as (moved-refused (a .a) s (c11 .stay-finite .result) (c11 .stay-finite .ensures)
+    (length (now (a .vertices))) (length (now (a .triangles))) (length (now (a .work))) (not-true (c11 .stay-finite .result) (c10 .if1 .taken)))
+    (c6 .refuse .ensures)
 
 move-mesh-requires : tie.Need-move-mesh-requires
 move-mesh-requires c κs = search needs
@@ -49,17 +55,23 @@ same-length-6 c = search needs
 
 returns-2 : tie.Need-returns-2
 returns-2 c =
-    let a = c .before .before .before .before .before .before .before .before .before .before .before .before .before .before .before .before .before .before .before .before .before .before .before .args in
+    let c6 = c .before .before .before .before .before .before in
+    let c14 = c6 .before .before .before .before .before .before .before .before in
+    let c17 = c14 .before .before .before in
+    let c18 = c17 .before in
+    let c23 = c18 .before .before .before .before .before in
+    let a = c23 .args in
     let s = state (a .counts) (now (a .vertices)) (now (a .triangles)) in
     let m = transform (a .a) (meshOf s) in
-    let vs = c .before .before .before .before .before .before .before .before .before .before .before .before .before .before .move-mesh .last .1 .0 in
-    let ts = c .before .before .before .before .before .before .before .before .before .before .before .before .before .before .move-mesh .last .1 .1 .0 in
+    let vs = c14 .move-mesh .last .1 .0 in
+    let ts = c14 .move-mesh .last .1 .1 .0 in
     let lv : length vs ≡ length (now (a .vertices)) = search needs in
     let lt : length ts ≡ length (now (a .triangles)) = search needs in
     gives-as
     (accepted-lengths m vs (now (a .vertices)) ts (now (a .triangles)) (now (a .work)) (now (a .work)) lv lt refl
-    ∙ moved-accepted (a .a) s (c .before .before .before .before .before .before .before .before .before .before .before .before .before .before .before .before .before .before .stay-finite .result) (c .before .before .before .before .before .before .before .before .before .before .before .before .before .before .before .before .before .before .stay-finite .ensures) (length (now (a .vertices))) (length (now (a .triangles))) (length (now (a .work))) (not-false (c .before .before .before .before .before .before .before .before .before .before .before .before .before .before .before .before .before .before .stay-finite .result) (c .before .before .before .before .before .before .before .before .before .before .before .before .before .before .before .before .before .if1 .left)))
-    (closes-gives m s (a .counts) vs ts (now (a .work)) (c .before .before .before .before .before .before .before .before .before .before .before .before .before .before .move-mesh .ensures) _ _ _ _ (c .before .before .before .before .before .before .accept .ensures))
+    ∙ moved-accepted (a .a) s (c18 .stay-finite .result) (c18 .stay-finite .ensures)
+    (length (now (a .vertices))) (length (now (a .triangles))) (length (now (a .work))) (not-false (c18 .stay-finite .result) (c17 .if1 .left)))
+    (closes-gives m s (a .counts) vs ts (now (a .work)) (c14 .move-mesh .ensures) _ _ _ _ (c6 .accept .ensures))
 
 pub moved-spec : {M : Type 1} → statement M
 moved-spec =

@@ -30,12 +30,18 @@ same-length-3 c = search needs
 
 returns : tie.Need-returns
 returns c =
-    let a = c .before .before .before .before .before .before .before .before .before .before .before .before .before .before .before .args in
+    let c6 = c .before .before .before .before .before .before in
+    let c7 = c6 .before in
+    let c11 = c7 .before .before .before .before in
+    let c15 = c11 .before .before .before .before in
+    let a = c15 .args in
     let s = state (a .counts) (now (a .vertices)) (now (a .triangles)) in
     gives-as
-    (ap {B = Outcome} (λ (x : Mat4). movedAs x (meshOf s) (length (now (a .vertices))) (length (now (a .triangles))) (length (now (a .work)))) (c .before .before .before .before .before .before .before .fold .ensures)
-    ∙ placed-moves (a .ops) (a .op-count) (a .degrees) (meshOf s) (length (now (a .vertices))) (length (now (a .triangles))) (length (now (a .work))) (c .before .before .before .before .before .before .before .before .before .before .before .if1 .taken))
-    (c .before .before .before .before .before .before .moved .ensures)
+    (ap {B = Outcome} (λ (x : Mat4). movedAs x (meshOf s)
+    (length (now (a .vertices))) (length (now (a .triangles))) (length (now (a .work)))) (c7 .fold .ensures)
+    ∙ placed-moves (a .ops) (a .op-count) (a .degrees) (meshOf s)
+    (length (now (a .vertices))) (length (now (a .triangles))) (length (now (a .work))) (c11 .if1 .taken))
+    (c6 .moved .ensures)
 
 accept-requires : tie.Need-accept-requires
 accept-requires c κs = search needs
@@ -51,10 +57,15 @@ same-length-6 c = search needs
 
 returns-2 : tie.Need-returns-2
 returns-2 c =
-    let a = c .before .before .before .before .before .before .before .before .before .before .before .before .before .before .args in
+    let c6 = c .before .before .before .before .before .before in
+    let c10 = c6 .before .before .before .before in
+    let c14 = c10 .before .before .before .before in
+    let a = c14 .args in
     let s = state (a .counts) (now (a .vertices)) (now (a .triangles)) in
-    gives-as (placed-none (a .ops) (a .op-count) (a .degrees) (meshOf s) (length (now (a .vertices))) (length (now (a .triangles))) (length (now (a .work))) (c .before .before .before .before .before .before .before .before .before .before .if1 .left))
-    (closes-gives (meshOf s) s (a .counts) (now (a .vertices)) (now (a .triangles)) (now (a .work)) (stored-self s (c .before .before .before .before .before .before .before .before .before .before .before .before .before .before .pre)) _ _ _ _ (c .before .before .before .before .before .before .accept .ensures))
+    gives-as (placed-none (a .ops) (a .op-count) (a .degrees) (meshOf s)
+    (length (now (a .vertices))) (length (now (a .triangles))) (length (now (a .work))) (c10 .if1 .left))
+    (closes-gives (meshOf s) s (a .counts) (now (a .vertices)) (now (a .triangles)) (now (a .work))
+    (stored-self s (c14 .pre)) _ _ _ _ (c6 .accept .ensures))
 
 pub placed-spec : {M : Type 1} → statement M
 placed-spec =

@@ -9,9 +9,10 @@ use Rattle.tessellate.proofs.turn.turn_outward.Tie as tie
 
 volume-sum-requires : tie.Need-volume-sum-requires
 volume-sum-requires c κs =
-    let a = c .before .before .before .args in
+    let c3 = c .before .before .before in
+    let a = c3 .args in
     let s = state (a .counts) (now (a .vertices)) (now (a .triangles)) in
-    all-within s (c .before .before .before .pre)
+    all-within s (c3 .pre)
 
 turn-all-requires : tie.Need-turn-all-requires
 turn-all-requires c κs = search needs
@@ -21,18 +22,22 @@ same-length c = search needs
 
 returns : tie.Need-returns
 returns c =
-    let a = c .before .before .before .before .before .before .before .before .before .args in
+    let c4 = c .before .before .before .before in
+    let c5 = c4 .before in
+    let c9 = c5 .before .before .before .before in
+    let a = c9 .args in
     let s = state (a .counts) (now (a .vertices)) (now (a .triangles)) in
-    outward-turned s (c .before .before .before .before .before .before .before .before .before .pre) (c .before .before .before .before .before .volume-sum .result) (c .before .before .before .before .before .volume-sum .ensures) _ (c .before .before .before .before .if1 .taken) (c .before .before .turn-all .ensures)
+    outward-turned s (c9 .pre) (c5 .volume-sum .result) (c5 .volume-sum .ensures) _ (c4 .if1 .taken) (c .before .before .turn-all .ensures)
 
 same-length-2 : tie.Need-same-length-2
 same-length-2 c = search needs
 
 returns-2 : tie.Need-returns-2
 returns-2 c =
-    let a = c .before .before .before .before .before .args in
+    let c5 = c .before .before .before .before .before in
+    let a = c5 .args in
     let s = state (a .counts) (now (a .vertices)) (now (a .triangles)) in
-    outward-kept s (c .before .before .before .before .before .pre) (c .before .volume-sum .result) (c .before .volume-sum .ensures) (c .if1 .left)
+    outward-kept s (c5 .pre) (c .before .volume-sum .result) (c .before .volume-sum .ensures) (c .if1 .left)
 
 pub turn-outward-spec : {M : Type 1} → statement M
 turn-outward-spec =
