@@ -1,0 +1,28 @@
+-- `cases::bytes::put_long` meets its contract. Assumes nothing.
+use Rattle.cases.specs.Bytes.{withLong}
+use borrow.Author.Needs.{needs}
+use Rattle.cases.proofs.bytes.put_long.Statement.{statement}
+use Rattle.cases.proofs.bytes.put_long.Tie as tie
+use Rattle.cases.proofs.bytes.put_long.Reads as reads
+use Rattle.cases.proofs.bytes.put_long.Lts as lts
+use Rattle.cases.proofs.bytes.put_low.Reads as put-low-reads
+
+put-low-requires : tie.Need-put-low-requires
+put-low-requires c κs = search needs
+
+add-put-low : tie.Need-add-put-low
+add-put-low c = search needs
+
+put-low-requires-2 : tie.Need-put-low-requires-2
+put-low-requires-2 c κs = search needs
+
+same-length : tie.Need-same-length
+same-length c = search needs
+
+returns : tie.Need-returns
+unfolding withLong
+returns c = cc
+
+pub put-long-spec : {M : Type 1} → statement M
+put-long-spec =
+    tie.close (tie.spec put-low-requires add-put-low put-low-requires-2 same-length returns)

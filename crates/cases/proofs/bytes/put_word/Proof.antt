@@ -1,0 +1,23 @@
+-- `cases::bytes::put_word` meets its contract. Assumes nothing.
+use borrow.Author.Needs.{needs}
+use Rattle.cases.proofs.bytes.put_word.Statement.{statement}
+use Rattle.cases.proofs.bytes.put_word.Tie as tie
+use Rattle.cases.proofs.bytes.put_word.Reads as reads
+use Rattle.cases.proofs.bytes.put_word.Lts as lts
+use Rattle.cases.proofs.bytes.put_low.Reads as put-low-reads
+use Rattle.cases.proofs.bytes.wider.Reads as wider-reads
+
+wider-requires : tie.Need-wider-requires
+wider-requires c κs = search needs
+
+put-low-requires : tie.Need-put-low-requires
+put-low-requires c κs = search needs
+
+same-length : tie.Need-same-length
+same-length c = search needs
+
+returns : tie.Need-returns
+returns c = cc
+
+pub put-word-spec : {M : Type 1} → statement M
+put-word-spec = tie.close (tie.spec wider-requires put-low-requires same-length returns)

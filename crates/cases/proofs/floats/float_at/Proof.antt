@@ -1,0 +1,20 @@
+-- `cases::floats::float_at` meets its contract. Assumes nothing.
+use borrow.Author.Needs.{needs}
+use Rattle.cases.proofs.floats.float_at.Statement.{statement}
+use Rattle.cases.proofs.floats.float_at.Tie as tie
+use Rattle.cases.proofs.floats.float_at.Reads as reads
+use Rattle.cases.proofs.floats.float_at.Lts as lts
+use Rattle.cases.proofs.bytes.long_at.Reads as long-at-reads
+use Rattle.cases.proofs.floats.from_bits.Reads as from-bits-reads
+
+long-at-requires : tie.Need-long-at-requires
+long-at-requires c κs = search needs
+
+from-bits-requires : tie.Need-from-bits-requires
+from-bits-requires c κs = search needs
+
+returns : tie.Need-returns
+returns c = cc
+
+pub float-at-spec : {M : Type 1} → statement M
+float-at-spec = tie.close (tie.spec long-at-requires from-bits-requires returns)

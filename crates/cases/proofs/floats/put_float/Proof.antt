@@ -1,0 +1,23 @@
+-- `cases::floats::put_float` meets its contract. Assumes nothing.
+use borrow.Author.Needs.{needs}
+use Rattle.cases.proofs.floats.put_float.Statement.{statement}
+use Rattle.cases.proofs.floats.put_float.Tie as tie
+use Rattle.cases.proofs.floats.put_float.Reads as reads
+use Rattle.cases.proofs.floats.put_float.Lts as lts
+use Rattle.cases.proofs.bytes.put_long.Reads as put-long-reads
+use Rattle.cases.proofs.floats.bits_of.Reads as bits-of-reads
+
+bits-of-requires : tie.Need-bits-of-requires
+bits-of-requires c κs = search needs
+
+put-long-requires : tie.Need-put-long-requires
+put-long-requires c κs = search needs
+
+same-length : tie.Need-same-length
+same-length c = search needs
+
+returns : tie.Need-returns
+returns c = cc
+
+pub put-float-spec : {M : Type 1} → statement M
+put-float-spec = tie.close (tie.spec bits-of-requires put-long-requires same-length returns)

@@ -1,0 +1,121 @@
+-- `cases::ops::op_at` meets its contract. Assumes nothing.
+use denote.Ref.{now}
+use Prim.Native.Nat.{_+_}
+use Rattle.cases.specs.Layout.{opOfKind}
+use Rattle.cases.proofs.Operations.{of-kind, other-kind}
+use borrow.Author.Needs.{needs}
+use Rattle.cases.proofs.ops.op_at.Statement.{statement}
+use Rattle.cases.proofs.ops.op_at.Tie as tie
+use Rattle.cases.proofs.ops.op_at.Reads as reads
+use Rattle.cases.proofs.ops.op_at.Lts as lts
+use Rattle.cases.proofs.floats.float_at.Reads as float-at-reads
+use Rattle.cases.proofs.ops.matrix_at.Reads as matrix-at-reads
+use Rattle.cases.proofs.ops.vec_at.Reads as vec-at-reads
+
+add-n : tie.Need-add-n
+add-n c = search needs
+
+shared-slice-read-match : tie.Need-shared-slice-read-match
+shared-slice-read-match c = search needs
+
+vec-at-requires : tie.Need-vec-at-requires
+vec-at-requires c κs = search needs
+
+vec-at-requires-2 : tie.Need-vec-at-requires-2
+vec-at-requires-2 c κs = search needs
+
+add-float-at : tie.Need-add-float-at
+add-float-at c = search needs
+
+float-at-requires : tie.Need-float-at-requires
+float-at-requires c κs = search needs
+
+float-at-requires-2 : tie.Need-float-at-requires-2
+float-at-requires-2 c κs = search needs
+
+float-at-requires-3 : tie.Need-float-at-requires-3
+float-at-requires-3 c κs = search needs
+
+float-at-requires-4 : tie.Need-float-at-requires-4
+float-at-requires-4 c κs = search needs
+
+float-at-requires-5 : tie.Need-float-at-requires-5
+float-at-requires-5 c κs = search needs
+
+vec-at-requires-3 : tie.Need-vec-at-requires-3
+vec-at-requires-3 c κs = search needs
+
+matrix-at-requires : tie.Need-matrix-at-requires
+matrix-at-requires c κs = search needs
+
+returns : tie.Need-returns
+unfolding opOfKind
+returns c =
+    let s = c .before .before .before .before in
+    of-kind (now (s .args .b)) (s .args .at + 8) 1 (c .before .match .keys1) (cc)
+
+returns-2 : tie.Need-returns-2
+unfolding opOfKind
+returns-2 c =
+    let s = c .before .before .before .before .before in
+    of-kind (now (s .args .b)) (s .args .at + 8) 2 (c .before .before .match .keys2) (cc)
+
+returns-3 : tie.Need-returns-3
+unfolding opOfKind
+returns-3 c =
+    let s = c .before .before .before .before in
+    of-kind (now (s .args .b)) (s .args .at + 8) 3 (c .before .match .keys3) (cc)
+
+returns-4 : tie.Need-returns-4
+unfolding opOfKind
+returns-4 c =
+    let s = c .before .before .before .before in
+    of-kind (now (s .args .b)) (s .args .at + 8) 4 (c .before .match .keys4) (cc)
+
+returns-5 : tie.Need-returns-5
+unfolding opOfKind
+returns-5 c =
+    let s = c .before .before .before .before in
+    of-kind (now (s .args .b)) (s .args .at + 8) 5 (c .before .match .keys5) (cc)
+
+returns-6 : tie.Need-returns-6
+unfolding opOfKind
+returns-6 c =
+    let s = c .before .before .before .before in
+    of-kind (now (s .args .b)) (s .args .at + 8) 6 (c .before .match .keys6) (cc)
+
+returns-7 : tie.Need-returns-7
+unfolding opOfKind
+returns-7 c =
+    let s = c .before .before .before .before in
+    of-kind (now (s .args .b)) (s .args .at + 8) 7 (c .before .match .keys7) (cc)
+
+returns-8 : tie.Need-returns-8
+returns-8 c =
+    let s = c .before .before .before .before in
+    other-kind (now (s .args .b)) (s .args .at + 8) (c .before .match .rest) (c .matrix-at .ensures)
+
+pub op-at-spec : {M : Type 1} → statement M
+op-at-spec =
+    tie.close
+    (tie.spec
+    add-n
+    shared-slice-read-match
+    vec-at-requires
+    vec-at-requires-2
+    add-float-at
+    float-at-requires
+    float-at-requires-2
+    float-at-requires-3
+    float-at-requires-4
+    float-at-requires-5
+    vec-at-requires-3
+    matrix-at-requires
+    returns
+    returns-2
+    returns-3
+    returns-4
+    returns-5
+    returns-6
+    returns-7
+    returns-8)

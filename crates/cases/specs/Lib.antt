@@ -1,0 +1,4 @@
+-- The definitions that the contracts of `cases` cite.
+pub mod Bytes
+pub mod Layout
+pub mod Lists
