@@ -1,7 +1,7 @@
 -- Laws of the searches, in the form that the code's loops go by. Assumes nothing.
 use Prim.Native.Nat.{ℕ, zero, suc, _+_, _-_, _*_, _%_, _<_, _≤_}
 use mathlib.Core.Path.{_≡_, refl, sym, ap, _∙_}
-use mathlib.Core.Bool.{Bool, true, false, not, _&&_, _||_}
+use mathlib.Core.Bool.{Bool, true, false, not, _&&_, _||_, and-true, and-false}
 use mathlib.Core.List.{List, [], _∷_}
 use native.Mathlib.Numerals.{add-one}
 use native.Mathlib.Nat.{mod-lt, sub-zero}
@@ -81,25 +81,25 @@ seek-below p (suc d) k j e = seek-by d k j (p k) (seek p d (suc k)) (λ q. seek-
 
 -- ---- the test on a triangle, by what the code has found
 
-module _ (e : Float) (a b c p : Point) where
-  pub within-third : {x y z : Float} → x ≡ cross a b p → y ≡ cross b c p → z ≡ cross c a p → le (neg e) x ≡ true → le (neg e) y ≡ true → le (neg e) z ≡ within e a b c p
-  unfolding within
-  within-third ex ey ez hx hy = rw (← ex, ← ey, ← ez, hx, hy)
-
-  pub within-second : {x y : Float} → x ≡ cross a b p → y ≡ cross b c p → le (neg e) x ≡ true → le (neg e) y ≡ false → false ≡ within e a b c p
-  unfolding within
-  within-second ex ey hx hy = rw (← ex, ← ey, hx, hy)
-
-  pub within-first : {x : Float} → x ≡ cross a b p → le (neg e) x ≡ false → false ≡ within e a b c p
-  unfolding within
-  within-first ex hx = rw (← ex, hx)
-
--- ---- a corner that blocks an ear
-
 none-of : (a b : Bool) → false ≡ (a && (b && false))
 none-of true true = refl
 none-of true false = refl
 none-of false b = refl
+
+module _ (e : Float) (a b c p : Point) where
+  pub within-third : {x y z : Float} → z ≡ cross c a p → y ≡ cross b c p → x ≡ cross a b p → le (neg e) z ≡ true → le (neg e) y ≡ true → le (neg e) x ≡ within e a b c p
+  unfolding within
+  within-third ez ey ex hz hy = rw (← ex, ← ey, ← ez, hz, hy) (sym (and-true _))
+
+  pub within-second : {y z : Float} → z ≡ cross c a p → y ≡ cross b c p → le (neg e) z ≡ true → le (neg e) y ≡ false → false ≡ within e a b c p
+  unfolding within
+  within-second ez ey hz hy = rw (← ey, ← ez, hz, hy) (sym (and-false (le (neg e) (cross a b p))))
+
+  pub within-first : {z : Float} → z ≡ cross c a p → le (neg e) z ≡ false → false ≡ within e a b c p
+  unfolding within
+  within-first ez hz = rw (← ez, hz) (none-of (le (neg e) (cross a b p)) (le (neg e) (cross b c p)))
+
+-- ---- a corner that blocks an ear
 
 module _ (v : List Float) (e : Float) (t : Ear) (o : ℕ) where
   pub blocks-outside : within e (t .a) (t .b) (t .c) (point v o) ≡ false → false ≡ blocks v e t o

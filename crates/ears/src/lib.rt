@@ -53,13 +53,13 @@ pub fn tolerance(corners: &[f64]) -> f64
     1e-12 * scale * scale
 }
 
-// Whether p lies in the triangle a b c, or within e of it.
+// Whether p lies in the triangle a b c, or within e of it. Most corners lie beyond side c a, so that is asked first; the order does not change the answer.
 fn within(e: f64, a: Point, b: Point, c: Point, p: Point) -> bool
     ensures { λ r. ⌜ r ≡ within· e a b c p ⌝ }
 {
-    if cross(a, b, p) >= -e {
+    if cross(c, a, p) >= -e {
         if cross(b, c, p) >= -e {
-            return cross(c, a, p) >= -e;
+            return cross(a, b, p) >= -e;
         }
         return false;
     }

@@ -1,8 +1,8 @@
--- A number that is nearer to the root than both its neighbours is the root to the nearest whole number: what `near_root` tests. Nothing here is about floats. Assumes nothing.
-use mathlib.Core.Path.{_≡_, sym}
+-- A number that is nearer to the root than both its neighbours is the root to the nearest whole number: what `extend` tests. Nothing here is about floats. Assumes nothing.
+use mathlib.Core.Path.{_≡_, refl, sym, ap}
 use mathlib.Core.Bool.{Bool, true, false, not}
-use Prim.Native.Nat.{ℕ, zero, suc, _+_, _-_, _*_, _^_, _≤_, _<_}
-use native.Mathlib.Nat.{lt-of-not-le, mul-le-mul-left, mul-le-mul-right}
+use Prim.Native.Nat.{ℕ, zero, suc, _+_, _-_, _*_, _/_, _%_, _^_, _≤_, _<_}
+use native.Mathlib.Nat.{lt-of-not-le, mul-le-mul, mul-le-mul-left, mul-le-mul-right, div-add-mod', mod-lt}
 use native.Mathlib.Omega.{arith}
 use lib.Dec.{T, leb, leb→le, nleb→lt}
 use Rattle.root.specs.Sqrt.{nearRoot}
@@ -41,14 +41,59 @@ near-range m r a b n = (
 pub rounded : (m r : ℕ) → 2 ^ 52 ≤ m → m + 2 ≤ 2 ^ 54 → Near (m * 2 ^ 52) r → (r ≡ nearRoot (m * 2 ^ 52)) × (2 ^ 52 ≤ r) × (r < 2 ^ 53)
 rounded m r a b n = let g = near-range m r a b n in (near-by (m * 2 ^ 52) r n, g .0, g .1)
 
--- ---- from a guess q, where e is w + 2 ^ 55 - q * q: q itself, and the number before and after it
+-- ---- from the leading digits h: a is m - h * h, and l and d are the quotient and the rest of a * 2 ^ 25 by h
 
-pub same : (w q e : ℕ) → e + q * q ≡ w + 2 ^ 55 → 2 ^ 55 < e + q → e ≤ 2 ^ 55 + q → Near w q
-same w q e h a b = record { low = omega arith; high = omega arith }
+pub record Split (h a l d : ℕ) : Type 0 where
+  pub lower : 2 ^ 26 ≤ h
+  pub few : l ≤ 2 ^ 26
+  pub rest : d < h
+  pub whole : (h * 2 ^ 26 + l) * (h * 2 ^ 26 + l) + d * 2 ^ 27 ≡ (h * h + a) * 2 ^ 52 + l * l
+  pub small : l * l < h * 2 ^ 26 + l
 
-pub one-less : (w q e : ℕ) → e + q * q ≡ w + 2 ^ 55 → 0 < q → 2 ^ 55 + 2 < e + 3 * q → e + q ≤ 2 ^ 55 → Near w (q - 1)
-one-less w zero e h p a b = absurd (omega arith)
-one-less w (suc q) e h p a b = let i : suc q - 1 ≡ q = omega arith in rw i (record { low = omega arith; high = omega arith })
+enough-digits : (h a : ℕ) → 2 ^ 52 ≤ h * h + a → a ≤ 2 * h → 2 ^ 26 ≤ h
+enough-digits h a m t = lt-of-not-le (λ (g : h ≤ 2 ^ 26 - 1). omega (arith, mul-le-mul g g))
 
-pub one-more : (w q e : ℕ) → e + q * q ≡ w + 2 ^ 55 → 2 ^ 55 + q < e → e ≤ 2 ^ 55 + 2 + 3 * q → Near w (q + 1)
-one-more w q e h a b = record { low = omega arith; high = omega arith }
+few-digits : (h a l d : ℕ) → l * h + d ≡ a * 2 ^ 25 → a ≤ 2 * h → 0 < h → l < 2 ^ 26 + 1
+few-digits h a l d e t p = lt-of-not-le (λ (g : 2 ^ 26 + 1 ≤ l). omega (arith, mul-le-mul-right h g))
+
+square : (q h l : ℕ) → q ≡ h * 2 ^ 26 + l → q * q ≡ h * h * 2 ^ 52 + l * h * 2 ^ 27 + l * l
+square q h l e = omega (arith, ap (λ (x : ℕ). x * x) e)
+
+split-by : (h a l d : ℕ) → 2 ^ 52 ≤ h * h + a → a ≤ 2 * h → l * h + d ≡ a * 2 ^ 25 → d < h → Split h a l d
+split-by h a l d m t e r =
+    let lower : 2 ^ 26 ≤ h = enough-digits h a m t in
+    let few : l < 2 ^ 26 + 1 = few-digits h a l d e t (omega arith) in
+    record {
+      lower = lower;
+      few = omega arith;
+      rest = r;
+      whole = omega (arith, square (h * 2 ^ 26 + l) h l refl);
+      small = omega (arith, mul-le-mul-left {m = l} {n = 2 ^ 26} l (omega arith));
+    }
+
+pub split : (h a : ℕ) → 2 ^ 52 ≤ h * h + a → a ≤ 2 * h → Split h a (a * 2 ^ 25 / h) (a * 2 ^ 25 % h)
+split h a m t =
+    let lower : 2 ^ 26 ≤ h = enough-digits h a m t in
+    split-by h a (a * 2 ^ 25 / h) (a * 2 ^ 25 % h) m t (div-add-mod' (a * 2 ^ 25) h) (mod-lt (a * 2 ^ 25) (omega arith))
+
+pub kept : (h a l d : ℕ) → Split h a l d → d * 2 ^ 27 ≤ l * l + (h * 2 ^ 26 + l) → Near ((h * h + a) * 2 ^ 52) (h * 2 ^ 26 + l)
+kept h a l d s k = same (h * 2 ^ 26 + l) ((h * h + a) * 2 ^ 52) (l * l) (d * 2 ^ 27) (s .whole) (s .small) k
+  where
+    same : (q w z e : ℕ) → q * q + e ≡ w + z → z < q → e ≤ z + q → Near w q
+    same q w z e h a b = record { low = omega arith; high = omega arith }
+
+pub raised : (h a l d : ℕ) → Split h a l d → l * l + (h * 2 ^ 26 + l) < d * 2 ^ 27 → Near ((h * h + a) * 2 ^ 52) (h * 2 ^ 26 + l + 1)
+raised h a l d s k = next (h * 2 ^ 26 + l) ((h * h + a) * 2 ^ 52) (l * l) (d * 2 ^ 27) (s .whole) k (let r : d < h = s .rest in omega arith)
+  where
+    next : (q w z e : ℕ) → q * q + e ≡ w + z → z + q < e → e ≤ 2 * q → Near w (q + 1)
+    next q w z e h a b = record { low = omega arith; high = omega arith }
+
+pub below-square : (h : ℕ) → h < 2 ^ 27 → h * h ≤ (2 ^ 27 - 1) * (2 ^ 27 - 1)
+below-square h b = let k : h ≤ 2 ^ 27 - 1 = omega arith in mul-le-mul k k
+
+-- the difference that `near_root` takes does not wrap where it is small
+pub unwrapped : (m h a : ℕ) → (a + h * h) % 2 ^ 64 ≡ m → a ≤ 2 * h → h < 2 ^ 27 → h * h + a ≡ m
+unwrapped m h a e t b = omega (arith, e, below-square h b)
+
+pub at : (m n r : ℕ) → n ≡ m → (r ≡ nearRoot (n * 2 ^ 52)) × (2 ^ 52 ≤ r) × (r < 2 ^ 53) → (r ≡ nearRoot (m * 2 ^ 52)) × (2 ^ 52 ≤ r) × (r < 2 ^ 53)
+at m n r e h = rw e at h

@@ -51,7 +51,7 @@ join q k = mul-assoc q (2 ^ k) (2 ^ 1074) ∙ ap (λ (x : ℕ). q * x) (sym (pow
 pub start-low : (b : ℕ) → 0 < b → b < 2 ^ 52 → sqrt binary64 (ofBits binary64 b) ≡ rootUnits binary64 (b % 2 ^ 52 * 2 ^ 1074)
 start-low b p h = ap (sqrt binary64) (read-low b h) ∙ sqrt-odd (b % 2 ^ 52) 0 (omega arith) ∙ ap (rootUnits binary64) (join (b % 2 ^ 52) 0)
 
-pub start-normal : (b e : ℕ) → b / 2 ^ 52 ≡ e → 0 < e → e < 2047 → sqrt binary64 (ofBits binary64 b) ≡ rootUnits binary64 ((b % 2 ^ 52 + 2 ^ 52) * 2 ^ (1073 + e))
+start-normal : (b e : ℕ) → b / 2 ^ 52 ≡ e → 0 < e → e < 2047 → sqrt binary64 (ofBits binary64 b) ≡ rootUnits binary64 ((b % 2 ^ 52 + 2 ^ 52) * 2 ^ (1073 + e))
 start-normal b zero d p h = absurd (lt-irrefl 0 p)
 start-normal b (suc x) d p h =
     ap (sqrt binary64) (read-normal b x d h)
@@ -81,7 +81,7 @@ units-is r k h g =
     ap (λ (b : Bool). cond b (odd 54 false r k 1074) (inf false))
     (lt-ltb (r * 2 ^ k) (2 ^ 2098) (lt-of-lt-of-le (shl-lt 53 k h) (pow-mono {j = 2098} (omega arith))))
 
-pub write : (r k : ℕ) → 2 ^ 52 ≤ r → r < 2 ^ 53 → k < 2045 → ofBits binary64 (k * 2 ^ 52 + r) ≡ units binary64 false r k
+write : (r k : ℕ) → 2 ^ 52 ≤ r → r < 2 ^ 53 → k < 2045 → ofBits binary64 (k * 2 ^ 52 + r) ≡ units binary64 false r k
 write r k l h g =
     read-normal (k * 2 ^ 52 + r) k (omega arith) (omega arith)
     ∙ ap (λ (q : ℕ). odd 53 false q k 1074) (omega arith)
@@ -123,6 +123,53 @@ doubled m (suc j) h =
 
 pub large : (m j : ℕ) → 0 < m → 1074 ≤ j → 2 ^ 1074 ≤ m * 2 ^ j
 large m j h l = le-trans (pow-mono {i = 1074} l) (le-trans (le-of-eq (sym (one-mul (2 ^ j)))) (mul-le-mul-right (2 ^ j) h))
+
+-- ---- a value as `root_bits` takes it, in units of the square of the format's smallest value
+
+abbrev pub heldBy : ℕ → ℕ
+heldBy p = (p % 2 ^ 53 + (p % 2 ^ 53 - 2 ^ 52) + 2 ^ 52) * 2 ^ (p / 2 ^ 53 * 2 + 52)
+
+pub held-by : (p e c m j : ℕ) → p ≡ e * 2 ^ 53 + c → c < 2 ^ 53 → m ≡ c + (c - 2 ^ 52) + 2 ^ 52 → j ≡ e * 2 + 52 → m * 2 ^ j ≡ heldBy p
+held-by p e c m j h l f g =
+    let k : c ≡ p % 2 ^ 53 = omega arith in
+    let i : e ≡ p / 2 ^ 53 = omega arith in
+    ap (λ (x : ℕ). x * 2 ^ j) (f ∙ ap (λ (x : ℕ). x + (x - 2 ^ 52) + 2 ^ 52) k)
+    ∙ ap (λ (x : ℕ). (p % 2 ^ 53 + (p % 2 ^ 53 - 2 ^ 52) + 2 ^ 52) * 2 ^ x) (g ∙ ap (λ (x : ℕ). x * 2 + 52) i)
+
+-- the normal value with the pattern t + 2 ^ 52
+start : (t : ℕ) → t < 2046 * 2 ^ 52 → sqrt binary64 (ofBits binary64 (t + 2 ^ 52)) ≡ rootUnits binary64 (heldBy (t + 511 * 2 ^ 53))
+start t h = begins ∙ ap (rootUnits binary64) (go (leb (2 ^ 52) c) (leb→le (2 ^ 52) c) (nleb→lt (2 ^ 52) c))
+  where
+    c : ℕ
+    c = t % 2 ^ 53
+
+    x : ℕ
+    x = (t + 2 ^ 52) / 2 ^ 52
+
+    m : ℕ
+    m = (t + 2 ^ 52) % 2 ^ 52 + 2 ^ 52
+
+    begins : sqrt binary64 (ofBits binary64 (t + 2 ^ 52)) ≡ rootUnits binary64 (m * 2 ^ (1073 + x))
+    begins = start-normal (t + 2 ^ 52) x refl (omega arith) (omega arith)
+
+    go : (u : Bool) → (T u → 2 ^ 52 ≤ c) → (T (not u) → c < 2 ^ 52) → m * 2 ^ (1073 + x) ≡ heldBy (t + 511 * 2 ^ 53)
+    go true y n =
+        let k : 2 ^ 52 ≤ t % 2 ^ 53 = y tt in
+        let i : x ≡ 2 * (t / 2 ^ 53) + 2 = omega arith in
+        doubled m (1073 + x) (omega arith) ∙ held-by (t + 511 * 2 ^ 53) (t / 2 ^ 53 + 511) c (2 * m) (1073 + x - 1) (omega arith) (omega arith) (omega arith) (omega arith)
+    go false y n =
+        let k : t % 2 ^ 53 < 2 ^ 52 = n tt in
+        let i : x ≡ 2 * (t / 2 ^ 53) + 1 = omega arith in
+        held-by (t + 511 * 2 ^ 53) (t / 2 ^ 53 + 511) c m (1073 + x) (omega arith) (omega arith) (omega arith) (omega arith)
+
+-- p holds the value with the pattern b, within the range that `root_bits` asks for
+abbrev pub Held : ℕ → ℕ → Type 0
+Held b p = (sqrt binary64 (ofBits binary64 b) ≡ rootUnits binary64 (heldBy p)) × (485 * 2 ^ 53 ≤ p) × (p < 1534 * 2 ^ 53)
+
+pub normal-held : (b t p : ℕ) → (t + 2 ^ 52) % 2 ^ 64 ≡ b → t < 2046 * 2 ^ 52 → p ≡ t + 511 * 2 ^ 53 → Held b p
+normal-held b t p e h f =
+    let k : b ≡ t + 2 ^ 52 = omega arith in
+    (ap (λ (y : ℕ). sqrt binary64 (ofBits binary64 y)) k ∙ start t h ∙ ap (λ (y : ℕ). rootUnits binary64 (heldBy y)) (sym f), omega arith, omega arith)
 
 -- ---- the patterns of the zeros, the infinities and the values below zero
 

@@ -1,21 +1,23 @@
 -- `root::near_root` meets its contract. Assumes nothing.
-use Prim.Native.Nat.{_+_, _-_, _*_, _^_}
+use mathlib.Core.Path.{_≡_}
+use Prim.Native.Nat.{ℕ, _+_, _*_, _/_, _%_, _^_, _<_}
 use native.Mathlib.Omega.{arith}
-use Rattle.root.proofs.Neighbours.{rounded, same, one-less, one-more}
+use borrow.Author.Needs.{needs}
+use lib.Ieee.{Float, binary64, toBits}
+use Rattle.root.proofs.Neighbours.{below-square, unwrapped, at}
+use Rattle.root.proofs.Patterns.{no-nan}
 use Rattle.root.proofs.near_root.Statement.{statement}
 use Rattle.root.proofs.near_root.Tie as tie
 
+-- the leading digits of the guess s
+abbrev leading : Float → ℕ
+leading s = toBits binary64 s / 2 ^ 26 % 2 ^ 26 + 2 ^ 26
+
+leading-below : (s : Float) → leading s < 2 ^ 27
+leading-below s = omega arith
+
 guess-requires : tie.Need-guess-requires
-guess-requires c κs = (omega arith, omega arith)
-
-excess-requires : tie.Need-excess-requires
-excess-requires c κs = (omega arith, omega arith)
-
-mul-if1 : tie.Need-mul-if1
-mul-if1 c = omega arith
-
-add-if1 : tie.Need-add-if1
-add-if1 c = omega arith
+guess-requires c κs = omega arith
 
 round-root-requires : tie.Need-round-root-requires
 round-root-requires c κs = (omega arith, omega arith)
@@ -23,72 +25,53 @@ round-root-requires c κs = (omega arith, omega arith)
 returns : tie.Need-returns
 returns c = c .round-root .ensures
 
+float-to-bits-h : tie.Need-float-to-bits-h
+float-to-bits-h c = no-nan (c .before .guess .result) (c .if1 .left)
+
+add-h : tie.Need-add-h
+add-h c = omega arith
+
+mul-wrapping-sub-u64 : tie.Need-mul-wrapping-sub-u64
+mul-wrapping-sub-u64 c = let s = c .before .guess .result in omega (arith, below-square (leading s) (leading-below s))
+
+wrapping-sub-u64-requires : tie.Need-wrapping-sub-u64-requires
+wrapping-sub-u64-requires c κs = search needs
+
 mul-if2 : tie.Need-mul-if2
 mul-if2 c = omega arith
 
-add-if2 : tie.Need-add-if2
-add-if2 c = omega arith
+whole : (c : tie.Then2) → let h = leading (c .before .before .before .guess .result) in h * h + c .before .wrapping-sub-u64 .result ≡ c .before .before .before .before .args .m
+whole c =
+    let s = c .before .before .before .guess .result in
+    unwrapped (c .before .before .before .before .args .m) (leading s) (c .before .wrapping-sub-u64 .result) (c .before .wrapping-sub-u64 .ensures) (c .if2 .taken) (leading-below s)
 
-round-root-requires-2 : tie.Need-round-root-requires-2
-round-root-requires-2 c κs = (omega arith, omega arith)
+extend-requires : tie.Need-extend-requires
+extend-requires c κs =
+    let e = whole c in
+    (omega (arith, e), omega (arith, e), c .if2 .taken, leading-below (c .before .before .before .guess .result))
 
 returns-2 : tie.Need-returns-2
-returns-2 c = c .round-root2 .ensures
+returns-2 c = at _ _ _ (whole (c .before)) (c .extend .ensures)
 
-add-if3 : tie.Need-add-if3
-add-if3 c = omega arith
-
-sub-result : tie.Need-sub-result
-sub-result c = omega arith
+one-less-requires : tie.Need-one-less-requires
+one-less-requires c κs = (omega arith, omega arith, omega arith, omega arith)
 
 returns-3 : tie.Need-returns-3
-returns-3 c =
-    let s = c .before .before .before in
-    let m = s .before .before .args .m in
-    let q = s .before .guess .result in
-    let e = s .excess .result in
-    rounded m (q - 1) (omega arith) (omega arith) (one-less (m * 2 ^ 52) q e (s .excess .ensures .1 (omega arith)) (omega arith) (omega arith) (omega arith))
-
-add-if4 : tie.Need-add-if4
-add-if4 c = omega arith
-
-add-result : tie.Need-add-result
-add-result c = omega arith
-
-returns-4 : tie.Need-returns-4
-returns-4 c =
-    let s = c .before .before .before .before in
-    let m = s .before .before .args .m in
-    let q = s .before .guess .result in
-    let e = s .excess .result in
-    rounded m (q + 1) (omega arith) (omega arith) (one-more (m * 2 ^ 52) q e (s .excess .ensures .1 (omega arith)) (omega arith) (omega arith))
-
-returns-5 : tie.Need-returns-5
-returns-5 c =
-    let s = c .before .before .before .before in
-    let m = s .before .before .args .m in
-    let q = s .before .guess .result in
-    let e = s .excess .result in
-    rounded m q (omega arith) (omega arith) (same (m * 2 ^ 52) q e (s .excess .ensures .1 (omega arith)) (omega arith) (omega arith))
+returns-3 c = c .one-less .ensures
 
 pub near-root-spec : {M : Type 1} → statement M
 near-root-spec =
     tie.close
     (tie.spec
     guess-requires
-    excess-requires
-    mul-if1
-    add-if1
     round-root-requires
     returns
+    float-to-bits-h
+    add-h
+    mul-wrapping-sub-u64
+    wrapping-sub-u64-requires
     mul-if2
-    add-if2
-    round-root-requires-2
+    extend-requires
     returns-2
-    add-if3
-    sub-result
-    returns-3
-    add-if4
-    add-result
-    returns-4
-    returns-5)
+    one-less-requires
+    returns-3)
