@@ -2,7 +2,7 @@
 use mathlib.Core.Path.{_≡_, refl, sym, ap, _∙_}
 use mathlib.Core.Bool.{Bool, true, false, cond}
 use mathlib.Core.List.{List, [], _∷_}
-use Prim.Native.Nat.{ℕ, _≤_}
+use Prim.Native.Nat.{ℕ, _≤_, _<_}
 use native.Mathlib.Omega.{arith}
 use lib.Ieee.{Float, binary64, add, sub}
 use Rattle.ieee.specs.Number.{tau}
@@ -17,11 +17,14 @@ use Rattle.soups.specs.ParamBox.{three, paramBox}
 use Rattle.soups.specs.Coords.{cylindricalToCartesian}
 use Rattle.soups.specs.Boxes.{asIs, turnedTo, cylindricalBox, isFull, boxShape}
 use Rattle.soups.specs.Surface.{mapped}
-use Rattle.soups.proofs.ArcLaws.{arcSegments-few}
+use Rattle.soups.proofs.ArcLaws.{arcSegments-some, arcSegments-few}
 use Rattle.soups.proofs.SurfaceGrids.{cartesian-chart, cylindrical-chart}
 
 pub arc-few : (n segments : ℕ) (span : Float) → n ≡ arcSegments segments span → segments ≤ 1024 → n ≤ 1024
 arc-few n segments span e h = omega (arith, e, arcSegments-few segments span h)
+
+pub arc-some : (n segments : ℕ) (span : Float) → n ≡ arcSegments segments span → 0 < n
+arc-some n segments span e = omega (arith, e, arcSegments-some segments span)
 
 pub turned-full : (full : Bool) (lo hi : Vec3) → full ≡ true → new (hi .x) (add binary64 (lo .y) tau) (hi .z) ≡ turnedTo full lo hi
 unfolding turnedTo

@@ -1,5 +1,5 @@
 -- The faces of a parameter box of n parts on the middle axis, welded one after the other. Assumes nothing.
-use mathlib.Core.Path.{_≡_, refl, sym, ap, _∙_}
+use mathlib.Core.Path.{_≡_, refl, sym, ap, _∙_, subst}
 use mathlib.Core.Bool.{Bool, true, false, cond, not}
 use mathlib.Core.List.{List, [], _∷_, _++_, append-nil}
 use Prim.Native.Nat.{ℕ, zero, suc, _+_, _%_, _≤_, _<_}
@@ -10,13 +10,18 @@ use Rattle.math.specs.Vec.{axis}
 use Rattle.weld.specs.Rep.{Held, Ready, Runs}
 use Rattle.weld.specs.Runs.{runs-none, runs-then, runs-as}
 use Rattle.points.specs.Within.{FaceWithin}
+use Rattle.points.specs.declared.turns.Turns.the-variants.{OnLine}
+use Rattle.points.specs.Turns.{Filled, Tabled}
+use Rattle.points.proofs.Surfaces.{face-tabled}
 use Rattle.soups.specs.declared.Line.{Line}
 use Rattle.soups.specs.declared.Chart.{Chart}
+use Rattle.soups.specs.declared.Chart.the-variants.{Cartesian, Cylindrical, Around}
 use Rattle.soups.specs.declared.Surface.the-variants.{Face}
 use Rattle.soups.specs.Grid.{Soup, grid}
 use Rattle.soups.specs.ParamBox.{three, face, faces, paramBox}
 use Rattle.soups.specs.Surface.{mapped, lineOf, surfaceAt}
 use Rattle.soups.proofs.SurfaceGrids.{face-surface}
+use Rattle.grids.specs.Box.{AxisTabled, BoxWithin}
 
 -- `three` at the middle axis and at the others
 pub three-middle : {A : Type 0} (a b c : A) (k : ℕ) → k ≡ 1 → b ≡ three a b c k
@@ -32,6 +37,22 @@ few n zero h = omega arith
 few n (suc zero) h = h
 few n (suc (suc k)) h = omega arith
 
+guessed : (n k g : ℕ) → 1 < g → n < g → three 1 n 1 k < g
+guessed n zero g a b = a
+guessed n (suc zero) g a b = b
+guessed n (suc (suc k)) g a b = a
+
+-- a face reads the table of the middle axis
+axis-tabled : (line : ℕ → Line) (chart : Chart) (k : ℕ) (val : Float) (u v : Line) (tab : List Float) → k < 3 → u ≡ line ((k + 1) % 3) → v ≡ line ((k + 2) % 3)
+    → AxisTabled chart (line 1) tab → Tabled (Face chart k val u v) tab tab (u .n) (v .n)
+axis-tabled line Cartesian k val u v tab l p q w = tt
+axis-tabled line Cylindrical k val u v tab l p q w = face-tabled line Cylindrical k val u v tab l p q w
+axis-tabled line (Around a d e1 e2) k val u v tab l p q w = face-tabled line (Around a d e1 e2) k val u v tab l p q w
+
+-- the table of a line that is the middle axis
+pub line-tabled : (l m : Line) (n : ℕ) (tab : List Float) → l ≡ m → m .n ≡ n → Filled (OnLine l) n tab → Filled (OnLine m) (m .n) tab
+line-tabled l m n tab e d w = subst (λ (k : ℕ). Filled (OnLine m) k tab) (sym d) (subst (λ (x : Line). Filled (OnLine x) n tab) e w)
+
 -- a choice by a Bool
 pub chosen : {A : Type 0} (b : Bool) (x y r : A) → b ≡ true → r ≡ x → r ≡ cond b x y
 chosen b x y r e d = d ∙ ap (λ (t : Bool). cond t x y) (sym e)
@@ -43,13 +64,25 @@ other b x y r e d = d ∙ ap (λ (t : Bool). cond t x y) (sym e)
 pub tested : (x y a b : Float) (t : Bool) → x ≡ a → y ≡ b → eq x y ≡ t → eq a b ≡ t
 tested x y a b t p q e = ap (λ (z : Float). eq z b) (sym p) ∙ ap (λ (z : Float). eq x z) (sym q) ∙ e
 
+-- places for guesses stay as many
+pub guesses-kept : {lo hi : Vec3} {n : ℕ} {turns : Bool} {chart : Chart} {tab : List Float} {g h : ℕ} → g ≡ h → BoxWithin lo hi n turns chart tab h → BoxWithin lo hi n turns chart tab g
+guesses-kept {lo} {hi} {n} {turns} {chart} {tab} e B = subst (BoxWithin lo hi n turns chart tab) (sym e) B
+
 module _ (lo hi : Vec3) (n : ℕ) (turns : Bool) (chart : Chart) where
-  pub face-within : (k : ℕ) (u v : Line) → k < 3 → n ≤ 1024 → u ≡ lineOf lo hi (three 1 n 1) (three false turns false) ((k + 1) % 3)
-      → v ≡ lineOf lo hi (three 1 n 1) (three false turns false) ((k + 2) % 3) → (u .n ≤ 1024) × (v .n ≤ 1024) × FaceWithin k u v (u .n) (v .n)
-  face-within k u v l h p q =
-      let a : u .n ≤ 1024 = omega (arith, ap (λ (x : Line). x .n) p, few n ((k + 1) % 3) h) in
-      let b : v .n ≤ 1024 = omega (arith, ap (λ (x : Line). x .n) q, few n ((k + 2) % 3) h) in
-      (a, b, record { axis = l; ufew = a; vfew = b; ulast = omega arith; vlast = omega arith })
+  -- what `weld_grid` asks of a face
+  pub face-asks : (k : ℕ) (val : Float) (u v : Line) (tab : List Float) (guesses : ℕ) → k < 3 → BoxWithin lo hi n turns chart tab guesses
+      → u ≡ lineOf lo hi (three 1 n 1) (three false turns false) ((k + 1) % 3) → v ≡ lineOf lo hi (three 1 n 1) (three false turns false) ((k + 2) % 3)
+      → (u .n ≤ 1024) × (v .n ≤ 1024) × (v .n < guesses) × FaceWithin k u v (u .n) (v .n) × Tabled (Face chart k val u v) tab tab (u .n) (v .n)
+  face-asks k val u v tab guesses l B p q =
+      let a : u .n ≤ 1024 = omega (arith, ap (λ (x : Line). x .n) p, few n ((k + 1) % 3) (B .few)) in
+      let b : v .n ≤ 1024 = omega (arith, ap (λ (x : Line). x .n) q, few n ((k + 2) % 3) (B .few)) in
+      let g : v .n < guesses = omega (arith, ap (λ (x : Line). x .n) q, guessed n ((k + 2) % 3) guesses (B .one) (B .long)) in (
+        a,
+        b,
+        g,
+        record { axis = l; ufew = a; vfew = b; ulast = omega arith; vlast = omega arith },
+        axis-tabled (lineOf lo hi (three 1 n 1) (three false turns false)) chart k val u v tab l p q (B .tabled),
+      )
 
   pub face-runs : (p : List Float) (k : ℕ) (side : Bool) (u v : Line) (val : Float) (h r : Held)
       → u ≡ lineOf lo hi (three 1 n 1) (three false turns false) ((k + 1) % 3) → v ≡ lineOf lo hi (three 1 n 1) (three false turns false) ((k + 2) % 3)

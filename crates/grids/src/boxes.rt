@@ -2,14 +2,17 @@
 ghost use mathlib.Core.Path.{_≡_};
 ghost use mathlib.Core.Bool.{false, cond};
 ghost use Prim.Native.Nat.{_≤_, _<_};
+ghost use lib.ListN.{length};
 ghost use Rattle.math.specs.Vec.{axis};
 ghost use Rattle.weld.specs.Rep.{held, Ready, Runs};
 ghost use Rattle.soups.specs.ParamBox as Box;
 ghost use Rattle.soups.specs.ParamBox.{three};
 ghost use Rattle.soups.specs.Boxes as Boxes;
 ghost use Rattle.soups.specs.Surface.{mapped, lineOf};
+ghost use Rattle.grids.specs.Box.{BoxWithin};
 use crate::grid;
 use math::Vec3;
+use points::Turns;
 use soups::Chart;
 use soups::Line;
 use soups::Surface;
@@ -31,7 +34,7 @@ fn wraps(turns: bool, k: usize) -> bool
     if k == 1 { turns } else { false }
 }
 
-fn line_of(lo: Vec3, hi: Vec3, n: usize, turns: bool, k: usize) -> Line
+pub fn line_of(lo: Vec3, hi: Vec3, n: usize, turns: bool, k: usize) -> Line
     ensures { λ r. ⌜ r ≡ lineOf lo hi (three 1 n 1) (three false turns false) k ⌝ }
 {
     Line {
@@ -64,11 +67,13 @@ fn weld_face(
     n: usize,
     turns: bool,
     chart: Chart,
+    table: &[f64],
+    numbers: &mut [usize],
     k: usize,
     side: bool,
 ) -> Welder
     requires { ⌜ Ready (held w (now vertices) (now triangles) (now work)) ⌝ }
-    requires { ⌜ (n ≤ 1024) × (k < 3) ⌝ }
+    requires { ⌜ (k < 3) × BoxWithin lo hi n turns chart (now table) (length (now numbers)) ⌝ }
     ensures { λ r. ⌜ Runs (Box.face lo hi (three 1 n 1) (three false turns false) (mapped chart) k side)
         (held w (now (vertices .entry)) (now (triangles .entry)) (now (work .entry)))
         (held r (now (vertices .exit)) (now (triangles .exit)) (now (work .exit))) ⌝ }
@@ -84,7 +89,20 @@ fn weld_face(
         u,
         v,
     };
-    grid::weld_grid(vertices, triangles, work, w, s, &none, u.n, v.n, !side)
+    grid::weld_grid(
+        vertices,
+        triangles,
+        work,
+        w,
+        s,
+        &none,
+        table,
+        table,
+        numbers,
+        u.n,
+        v.n,
+        !side,
+    )
 }
 
 // The faces on the axis k: none where it is periodic, and the high one only where the bounds differ.
@@ -98,10 +116,12 @@ fn weld_faces(
     n: usize,
     turns: bool,
     chart: Chart,
+    table: &[f64],
+    numbers: &mut [usize],
     k: usize,
 ) -> Welder
     requires { ⌜ Ready (held w (now vertices) (now triangles) (now work)) ⌝ }
-    requires { ⌜ (n ≤ 1024) × (k < 3) ⌝ }
+    requires { ⌜ (k < 3) × BoxWithin lo hi n turns chart (now table) (length (now numbers)) ⌝ }
     ensures { λ r. ⌜ Runs (Box.faces lo hi (three 1 n 1) (three false turns false) (mapped chart) k)
         (held w (now (vertices .entry)) (now (triangles .entry)) (now (work .entry)))
         (held r (now (vertices .exit)) (now (triangles .exit)) (now (work .exit))) ⌝ }
@@ -119,6 +139,8 @@ fn weld_faces(
         n,
         turns,
         chart,
+        table,
+        numbers,
         k,
         false,
     );
@@ -137,12 +159,15 @@ fn weld_faces(
         n,
         turns,
         chart,
+        table,
+        numbers,
         k,
         true,
     )
 }
 
-// Soup::param_box with n parts on the middle axis, periodic where turns says so, and 1 part on the others.
+// Soup::param_box with n parts on the middle axis, periodic where turns says so, and 1 part on the others. `table` has the sines and
+// cosines of the middle axis where the chart takes it as an angle; `numbers` is for guesses, as in weld_grid.
 pub fn weld_param_box(
     vertices: &mut [f64],
     triangles: &mut [u32],
@@ -153,16 +178,57 @@ pub fn weld_param_box(
     n: usize,
     turns: bool,
     chart: Chart,
+    table: &[f64],
+    numbers: &mut [usize],
 ) -> Welder
     requires { ⌜ Ready (held w (now vertices) (now triangles) (now work)) ⌝ }
-    requires { ⌜ n ≤ 1024 ⌝ }
+    requires { ⌜ BoxWithin lo hi n turns chart (now table) (length (now numbers)) ⌝ }
     ensures { λ r. ⌜ Runs (Box.paramBox lo hi (three 1 n 1) (three false turns false) (mapped chart))
         (held w (now (vertices .entry)) (now (triangles .entry)) (now (work .entry)))
         (held r (now (vertices .exit)) (now (triangles .exit)) (now (work .exit))) ⌝ }
 {
-    let a = weld_faces(vertices, triangles, work, w, lo, hi, n, turns, chart, 0);
-    let b = weld_faces(vertices, triangles, work, a, lo, hi, n, turns, chart, 1);
-    weld_faces(vertices, triangles, work, b, lo, hi, n, turns, chart, 2)
+    let a = weld_faces(
+        vertices,
+        triangles,
+        work,
+        w,
+        lo,
+        hi,
+        n,
+        turns,
+        chart,
+        table,
+        numbers,
+        0,
+    );
+    let b = weld_faces(
+        vertices,
+        triangles,
+        work,
+        a,
+        lo,
+        hi,
+        n,
+        turns,
+        chart,
+        table,
+        numbers,
+        1,
+    );
+    weld_faces(
+        vertices,
+        triangles,
+        work,
+        b,
+        lo,
+        hi,
+        n,
+        turns,
+        chart,
+        table,
+        numbers,
+        2,
+    )
 }
 
 // Whether a span is a full turn.
@@ -205,6 +271,10 @@ fn weld_cylindrical_box(
 {
     let high = turned_to(full, lo, hi);
     let n = points::arc_segments(segments, high.y - lo.y);
+    let mut table = [0.0; 2050];
+    let mut numbers = [0usize; 1025];
+    let l = line_of(lo, high, n, full, 1);
+    points::fill_turns(Turns::OnLine { l }, n, &mut table);
     weld_param_box(
         vertices,
         triangles,
@@ -215,6 +285,8 @@ fn weld_cylindrical_box(
         n,
         full,
         Chart::Cylindrical,
+        &table,
+        &mut numbers,
     )
 }
 
@@ -240,6 +312,8 @@ pub fn weld_box_shape(
         let full = is_full(hi.y - lo.y);
         return weld_cylindrical_box(vertices, triangles, work, w, full, lo, hi, segments);
     }
+    let none = [0.0; 2];
+    let mut numbers = [0usize; 2];
     weld_param_box(
         vertices,
         triangles,
@@ -250,5 +324,7 @@ pub fn weld_box_shape(
         1,
         false,
         Chart::Cartesian,
+        &none,
+        &mut numbers,
     )
 }

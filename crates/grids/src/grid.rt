@@ -1,16 +1,19 @@
 // Soup::quad and Soup::grid of src/tessellate.rs, streamed into the welder.
 ghost use mathlib.Core.Path.{_≡_};
-ghost use Prim.Native.Nat.{_+_, _≤_};
+ghost use Prim.Native.Nat.{_+_, _≤_, _<_};
+ghost use lib.ListN.{length};
 ghost use Rattle.weld.specs.Rep.{held, Ready, Runs};
 ghost use Rattle.points.specs.Within.{Within};
+ghost use Rattle.points.specs.Turns.{Tabled};
 ghost use Rattle.soups.specs.Surface.{surfaceAt};
 ghost use Rattle.soups.specs.Grid as Grid;
 ghost use Rattle.grids.specs.Cell.{turned};
 use math::Vec3;
 use soups::Surface;
+use weld::Quad;
 use weld::Welder;
 
-// One cell: the quad a, b, c, d, or where flip says so a, d, c, b.
+// One cell: the quad a, b, c, d, or where flip says so a, d, c, b. The last three arguments are guesses at the numbers of a, b and d.
 fn weld_cell(
     vertices: &mut [f64],
     triangles: &mut [u32],
@@ -21,19 +24,31 @@ fn weld_cell(
     b: Vec3,
     c: Vec3,
     d: Vec3,
-) -> Welder
+    na: usize,
+    nb: usize,
+    nd: usize,
+) -> Quad
     requires { ⌜ Ready (held w (now vertices) (now triangles) (now work)) ⌝ }
     ensures { λ r. ⌜ Runs (turned flip a b c d)
         (held w (now (vertices .entry)) (now (triangles .entry)) (now (work .entry)))
-        (held r (now (vertices .exit)) (now (triangles .exit)) (now (work .exit))) ⌝ }
+        (held (r .st) (now (vertices .exit)) (now (triangles .exit)) (now (work .exit))) ⌝ }
 {
     if flip {
-        return weld::weld_quad(vertices, triangles, work, w, a, d, c, b);
+        let q = weld::weld_quad(vertices, triangles, work, w, a, d, c, b, na, nd, nb);
+        let st = q.st;
+        return Quad {
+            st,
+            a: q.a,
+            b: q.d,
+            c: q.c,
+            d: q.b,
+        };
     }
-    weld::weld_quad(vertices, triangles, work, w, a, b, c, d)
+    weld::weld_quad(vertices, triangles, work, w, a, b, c, d, na, nb, nd)
 }
 
-// The cells of row i. The last two points of a cell are the first two of the next.
+// The cells of row i. The last two points of a cell are the first two of the next. `numbers` has guesses at the numbers of the
+// row's points, and afterwards of the next row's.
 fn weld_row(
     vertices: &mut [f64],
     triangles: &mut [u32],
@@ -41,32 +56,43 @@ fn weld_row(
     w: Welder,
     s: Surface,
     corners: &[f64],
+    rows: &[f64],
+    cols: &[f64],
+    numbers: &mut [usize],
     i: usize,
     nv: usize,
     flip: bool,
 ) -> Welder
     requires { ⌜ Ready (held w (now vertices) (now triangles) (now work)) ⌝ }
-    requires { ⌜ (i + 1 ≤ 1024) × (nv ≤ 1024) × Within (now corners) s (i + 1) nv ⌝ }
+    requires { ⌜ (i + 1 ≤ 1024) × (nv ≤ 1024) × (nv < length (now numbers)) × Within (now corners) s (i + 1) nv × Tabled s (now rows) (now cols) (i + 1) nv ⌝ }
     ensures { λ r. ⌜ Runs (Grid.row nv flip (surfaceAt (now (corners .entry)) s) i)
         (held w (now (vertices .entry)) (now (triangles .entry)) (now (work .entry)))
         (held r (now (vertices .exit)) (now (triangles .exit)) (now (work .exit))) ⌝ }
 {
     let mut st = w;
-    let mut a = points::surface_point(s, corners, i, 0);
-    let mut b = points::surface_point(s, corners, i + 1, 0);
+    let mut a = points::surface_point(s, corners, rows, cols, i, 0);
+    let mut b = points::surface_point(s, corners, rows, cols, i + 1, 0);
+    let mut na = numbers[0];
+    let mut nb = w.count;
     let mut j = 0;
     while j < nv {
-        let d = points::surface_point(s, corners, i, j + 1);
-        let c = points::surface_point(s, corners, i + 1, j + 1);
-        st = weld_cell(vertices, triangles, work, st, flip, a, b, c, d);
+        let d = points::surface_point(s, corners, rows, cols, i, j + 1);
+        let c = points::surface_point(s, corners, rows, cols, i + 1, j + 1);
+        let nd = numbers[j + 1];
+        let q = weld_cell(vertices, triangles, work, st, flip, a, b, c, d, na, nb, nd);
+        numbers[j] = q.b;
+        st = q.st;
         a = d;
         b = c;
+        na = q.d;
+        nb = q.c;
         j += 1;
     }
+    numbers[nv] = nb;
     st
 }
 
-// Soup::grid over a surface.
+// Soup::grid over a surface. `numbers` is for guesses at the numbers of a row's points: what it holds before and after does not matter.
 pub fn weld_grid(
     vertices: &mut [f64],
     triangles: &mut [u32],
@@ -74,12 +100,15 @@ pub fn weld_grid(
     w: Welder,
     s: Surface,
     corners: &[f64],
+    rows: &[f64],
+    cols: &[f64],
+    numbers: &mut [usize],
     nu: usize,
     nv: usize,
     flip: bool,
 ) -> Welder
     requires { ⌜ Ready (held w (now vertices) (now triangles) (now work)) ⌝ }
-    requires { ⌜ (nu ≤ 1024) × (nv ≤ 1024) × Within (now corners) s nu nv ⌝ }
+    requires { ⌜ (nu ≤ 1024) × (nv ≤ 1024) × (nv < length (now numbers)) × Within (now corners) s nu nv × Tabled s (now rows) (now cols) nu nv ⌝ }
     ensures { λ r. ⌜ Runs (Grid.grid nu nv flip (surfaceAt (now (corners .entry)) s))
         (held w (now (vertices .entry)) (now (triangles .entry)) (now (work .entry)))
         (held r (now (vertices .exit)) (now (triangles .exit)) (now (work .exit))) ⌝ }
@@ -87,7 +116,20 @@ pub fn weld_grid(
     let mut st = w;
     let mut i = 0;
     while i < nu {
-        st = weld_row(vertices, triangles, work, st, s, corners, i, nv, flip);
+        st = weld_row(
+            vertices,
+            triangles,
+            work,
+            st,
+            s,
+            corners,
+            rows,
+            cols,
+            numbers,
+            i,
+            nv,
+            flip,
+        );
         i += 1;
     }
     st

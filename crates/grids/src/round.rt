@@ -7,6 +7,7 @@ ghost use Rattle.soups.specs.Cylinder as Cylinder;
 use crate::boxes;
 use crate::grid;
 use math::Vec3;
+use points::Turns;
 use soups::Chart;
 use soups::Surface;
 use weld::Welder;
@@ -36,8 +37,26 @@ pub fn weld_sphere(
     let nt = points::larger(rings, 2);
     let np = points::larger(segments, 3);
     let none = [0.0; 2];
+    let mut rows = [0.0; 2050];
+    let mut cols = [0.0; 2050];
+    let mut numbers = [0usize; 1025];
+    points::fill_turns(Turns::Latitudes { nt }, nt, &mut rows);
+    points::fill_turns(Turns::Longitudes { np }, np, &mut cols);
     let s = Surface::Sphere { c, r, nt, np };
-    grid::weld_grid(vertices, triangles, work, w, s, &none, nt, np, flip)
+    grid::weld_grid(
+        vertices,
+        triangles,
+        work,
+        w,
+        s,
+        &none,
+        &rows,
+        &cols,
+        &mut numbers,
+        nt,
+        np,
+        flip,
+    )
 }
 
 // A sphere's two skins. The inner one is turned round.
@@ -122,7 +141,23 @@ fn weld_tube(
         z: len,
     };
     let chart = Chart::Around { a, d, e1, e2 };
-    boxes::weld_param_box(vertices, triangles, work, w, lo, hi, np, true, chart)
+    let mut table = [0.0; 2050];
+    let mut numbers = [0usize; 1025];
+    let l = boxes::line_of(lo, hi, np, true, 1);
+    points::fill_turns(Turns::OnLine { l }, np, &mut table);
+    boxes::weld_param_box(
+        vertices,
+        triangles,
+        work,
+        w,
+        lo,
+        hi,
+        np,
+        true,
+        chart,
+        &table,
+        &mut numbers,
+    )
 }
 
 pub fn weld_cylinder(

@@ -1,3 +1,4 @@
 -- What the contracts of `points` cite beside the definitions of `soups`.
 pub mod Pieces
 pub mod Within
+pub mod Turns

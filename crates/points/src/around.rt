@@ -2,20 +2,32 @@
 ghost use mathlib.Core.Path.{_≡_};
 ghost use Rattle.soups.specs.Coords.{cylindricalToCartesian, toCartesian};
 ghost use Rattle.soups.specs.Cylinder as Cylinder;
-ghost use Rattle.soups.specs.Surface as Surface;
 ghost use Rattle.points.specs.Pieces as Pieces;
 use math::Vec3;
-use soups::Chart;
+use trig::SinCos;
+
+// A point in cylindrical coordinates: the radius x, the sine and cosine of the angle, the height z.
+pub struct Polar {
+    pub t: SinCos,
+    pub x: f64,
+    pub z: f64,
+}
+
+// (x * cos, x * sin, z).
+pub fn cylindrical_by(t: SinCos, x: f64, z: f64) -> Vec3
+    ensures { λ r. ⌜ r ≡ Pieces.cylindricalBy t x z ⌝ }
+{
+    Vec3 {
+        x: x * t.cos,
+        y: x * t.sin,
+        z: z,
+    }
+}
 
 pub fn cylindrical_to_cartesian(p: Vec3) -> Vec3
     ensures { λ r. ⌜ r ≡ cylindricalToCartesian p ⌝ }
 {
-    let t = trig::sin_cos(p.y);
-    Vec3 {
-        x: p.x * t.cos,
-        y: p.x * t.sin,
-        z: p.z,
-    }
+    cylindrical_by(trig::sin_cos(p.y), p.x, p.z)
 }
 
 pub fn to_cartesian(p: Vec3, cylindrical: bool) -> Vec3
@@ -60,22 +72,10 @@ fn turned(e1: Vec3, e2: Vec3, cs: f64, sn: f64) -> Vec3
     math::add(math::mul(e1, cs), math::mul(e2, sn))
 }
 
-// a + d * p[2] + (e1 * cs + e2 * sn) * p[0].
-pub fn around_axis(a: Vec3, d: Vec3, e1: Vec3, e2: Vec3, p: Vec3) -> Vec3
-    ensures { λ r. ⌜ r ≡ Cylinder.aroundAxis a d e1 e2 p ⌝ }
+// a + d * z + (e1 * cos + e2 * sin) * x.
+pub fn around_axis_by(a: Vec3, d: Vec3, e1: Vec3, e2: Vec3, t: SinCos, x: f64, z: f64) -> Vec3
+    ensures { λ r. ⌜ r ≡ Pieces.aroundAxisBy a d e1 e2 t x z ⌝ }
 {
-    let t = trig::sin_cos(p.y);
-    let along = math::add(a, math::mul(d, p.z));
-    math::add(along, math::mul(turned(e1, e2, t.cos, t.sin), p.x))
-}
-
-// The map of a parameter box, by cases.
-pub fn mapped(chart: Chart, p: Vec3) -> Vec3
-    ensures { λ r. ⌜ r ≡ Surface.mapped chart p ⌝ }
-{
-    match chart {
-        Chart::Cartesian => p,
-        Chart::Cylindrical => cylindrical_to_cartesian(p),
-        Chart::Around { a, d, e1, e2 } => around_axis(a, d, e1, e2, p),
-    }
+    let along = math::add(a, math::mul(d, z));
+    math::add(along, math::mul(turned(e1, e2, t.cos, t.sin), x))
 }

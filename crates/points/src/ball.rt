@@ -2,7 +2,6 @@
 ghost use mathlib.Core.Path.{_≡_};
 ghost use Prim.Native.Nat.{_≤_, _<_};
 ghost use Rattle.soups.specs.Sphere as Sphere;
-ghost use Rattle.points.specs.Within.{SphereWithin};
 use math::Vec3;
 use trig::SinCos;
 
@@ -46,11 +45,4 @@ pub fn on_sphere(c: Vec3, r: f64, t: SinCos, p: SinCos) -> Vec3
         z: t.cos,
     };
     math::add(c, math::mul(n, r))
-}
-
-pub fn sphere_point(c: Vec3, r: f64, nt: usize, np: usize, i: usize, j: usize) -> Vec3
-    requires { ⌜ SphereWithin nt np i ⌝ }
-    ensures { λ v. ⌜ v ≡ Sphere.spherePoint c r nt np i j ⌝ }
-{
-    on_sphere(c, r, latitude(nt, i), longitude(np, j))
 }

@@ -5,6 +5,13 @@ use Prim.Native.Nat.{ℕ}
 use lib.Ieee.{Float}
 use Rattle.ieee.specs.Number.{tau}
 use Rattle.balance.specs.Soup.{Tri, mapTri, flip}
+use Rattle.soups.specs.declared.Surface.{Surface}
+use Rattle.points.specs.Within.{Within}
+use Rattle.points.specs.Turns.{Tabled}
+
+-- what the code asks of a surface to compute the points of a cap, which lie at j
+abbrev pub CapsWithin : List Float → Surface → List Float → List Float → ℕ → Type 0
+CapsWithin p s rows cols j = (i : ℕ) → Within p s i j × Tabled s rows cols i j
 
 module _ {P : Type 0} where
   -- a triangle at the one end, and where both says so turned round at the other

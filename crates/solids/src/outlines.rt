@@ -8,11 +8,11 @@ ghost use lib.Ieee.{Float};
 ghost use Rattle.ieee.specs.Number.{tau};
 ghost use Rattle.balance.specs.Buffer.{tris};
 ghost use Rattle.weld.specs.Rep.{held, Ready, Runs};
-ghost use Rattle.points.specs.Within.{Within};
 ghost use Rattle.soups.specs.Surface.{surfaceAt};
 ghost use Rattle.soups.specs.Outline as Outline;
 ghost use Rattle.soups.specs.Polygons as Polygons;
-ghost use Rattle.solids.specs.Caps.{capOf, capsOf, turnSpan};
+ghost use Rattle.solids.specs.Caps.{CapsWithin, capOf, capsOf, turnSpan};
+use points::Turns;
 use soups::Surface;
 use weld::Welder;
 
@@ -26,6 +26,8 @@ fn weld_cap(
     w: Welder,
     s: Surface,
     corners: &[f64],
+    rows: &[f64],
+    cols: &[f64],
     both: bool,
     near: usize,
     far: usize,
@@ -34,19 +36,19 @@ fn weld_cap(
     c: usize,
 ) -> Welder
     requires { ⌜ Ready (held w (now vertices) (now triangles) (now work)) ⌝ }
-    requires { ⌜ ((i : ℕ) → Within (now corners) s i near) × ((i : ℕ) → Within (now corners) s i far) ⌝ }
+    requires { ⌜ CapsWithin (now corners) s (now rows) (now cols) near × CapsWithin (now corners) s (now rows) (now cols) far ⌝ }
     ensures { λ r. ⌜ Runs (capOf both (λ i. surfaceAt (now (corners .entry)) s i near) (λ i. surfaceAt (now (corners .entry)) s i far) (a, b, c))
         (held w (now (vertices .entry)) (now (triangles .entry)) (now (work .entry)))
         (held r (now (vertices .exit)) (now (triangles .exit)) (now (work .exit))) ⌝ }
 {
-    let an = points::surface_point(s, corners, a, near);
-    let bn = points::surface_point(s, corners, b, near);
-    let cn = points::surface_point(s, corners, c, near);
+    let an = points::surface_point(s, corners, rows, cols, a, near);
+    let bn = points::surface_point(s, corners, rows, cols, b, near);
+    let cn = points::surface_point(s, corners, rows, cols, c, near);
     let u = weld::weld_triangle(vertices, triangles, work, w, an, bn, cn);
     if both {
-        let af = points::surface_point(s, corners, a, far);
-        let cf = points::surface_point(s, corners, c, far);
-        let bf = points::surface_point(s, corners, b, far);
+        let af = points::surface_point(s, corners, rows, cols, a, far);
+        let cf = points::surface_point(s, corners, rows, cols, c, far);
+        let bf = points::surface_point(s, corners, rows, cols, b, far);
         return weld::weld_triangle(vertices, triangles, work, u, af, cf, bf);
     }
     u
@@ -66,13 +68,15 @@ fn weld_caps(
     w: Welder,
     s: Surface,
     corners: &[f64],
+    rows: &[f64],
+    cols: &[f64],
     caps: &[u32],
     both: bool,
     near: usize,
     far: usize,
 ) -> Welder
     requires { ⌜ Ready (held w (now vertices) (now triangles) (now work)) ⌝ }
-    requires { ⌜ ((i : ℕ) → Within (now corners) s i near) × ((i : ℕ) → Within (now corners) s i far) ⌝ }
+    requires { ⌜ CapsWithin (now corners) s (now rows) (now cols) near × CapsWithin (now corners) s (now rows) (now cols) far ⌝ }
     ensures { λ r. ⌜ Runs (capsOf both (λ i. surfaceAt (now (corners .entry)) s i near) (λ i. surfaceAt (now (corners .entry)) s i far) (tris (now (caps .entry))))
         (held w (now (vertices .entry)) (now (triangles .entry)) (now (work .entry)))
         (held r (now (vertices .exit)) (now (triangles .exit)) (now (work .exit))) ⌝ }
@@ -92,6 +96,8 @@ fn weld_caps(
             st,
             s,
             corners,
+            rows,
+            cols,
             both,
             near,
             far,
@@ -129,11 +135,52 @@ fn weld_extruded_from(
     let cut = clipper::triangulate_polygon(p, &mut caps);
     let m = 3 * cut.triangles;
     let s = Surface::Extruded { n, len, lo, hi };
+    let none = [0.0; 2];
     if hi != lo {
-        let u = weld_caps(vertices, triangles, work, w, s, p, &caps[..m], true, 1, 0);
-        return grids::weld_grid(vertices, triangles, work, u, s, p, len, 1, false);
+        let mut numbers = [0usize; 2];
+        let u = weld_caps(
+            vertices,
+            triangles,
+            work,
+            w,
+            s,
+            p,
+            &none,
+            &none,
+            &caps[..m],
+            true,
+            1,
+            0,
+        );
+        return grids::weld_grid(
+            vertices,
+            triangles,
+            work,
+            u,
+            s,
+            p,
+            &none,
+            &none,
+            &mut numbers,
+            len,
+            1,
+            false,
+        );
     }
-    weld_caps(vertices, triangles, work, w, s, p, &caps[..m], false, 1, 0)
+    weld_caps(
+        vertices,
+        triangles,
+        work,
+        w,
+        s,
+        p,
+        &none,
+        &none,
+        &caps[..m],
+        false,
+        1,
+        0,
+    )
 }
 
 pub fn weld_extruded(
@@ -200,14 +247,50 @@ fn weld_rotated_from(
         span,
         n,
     };
-    let u = grids::weld_grid(vertices, triangles, work, w, s, p, len, n, true);
+    let none = [0.0; 2];
+    let mut cols = [0.0; 2050];
+    let mut numbers = [0usize; 1025];
+    let t = Turns::Angles {
+        full,
+        start,
+        span,
+        n,
+    };
+    points::fill_turns(t, n, &mut cols);
+    let u = grids::weld_grid(
+        vertices,
+        triangles,
+        work,
+        w,
+        s,
+        p,
+        &none,
+        &cols,
+        &mut numbers,
+        len,
+        n,
+        true,
+    );
     if full {
         return u;
     }
     let mut caps = [0u32; 1536];
     let cut = clipper::triangulate_polygon(p, &mut caps);
     let m = 3 * cut.triangles;
-    weld_caps(vertices, triangles, work, u, s, p, &caps[..m], true, 0, n)
+    weld_caps(
+        vertices,
+        triangles,
+        work,
+        u,
+        s,
+        p,
+        &none,
+        &cols,
+        &caps[..m],
+        true,
+        0,
+        n,
+    )
 }
 
 // Whether the corners are swapped to (radial, axial): unless the plane's first axis is the radial one.

@@ -3,20 +3,21 @@ use mathlib.Core.Path.{_≡_, refl, sym, ap, _∙_, subst}
 use mathlib.Core.Bool.{Bool, true, false, cond}
 use mathlib.Core.List.{List}
 use mathlib.Core.Logic.{⊎-elim, _⊎_, inl, inr}
-use Prim.Native.Nat.{ℕ, zero, suc, _+_, _≤_, _<_, zero-le, suc-le-suc}
+use Prim.Native.Nat.{ℕ, zero, suc, _+_, _*_, _≤_, _<_, zero-le, suc-le-suc}
 use native.Mathlib.Nat.{le-refl, le-suc, le-trans, suc-inj, eq-or-lt-of-le, le-of-suc-le-suc, not-suc-le-zero}
 use native.Mathlib.Numerals.{add-one}
 use native.Mathlib.Omega.{arith}
 use borrow.Author.Tests.{eqb-true, eqb-false, eq-eqb, ne-eqb}
-use lib.ListN.{getD, set, length-set}
+use lib.ListN.{length, getD, set, length-set}
 use lib.Seq.{getD-set-same}
 use lib.Dec.{eqb}
 use lib.Ieee.{Float}
 use Rattle.math.specs.declared.Vec3.{Vec3}
 use Rattle.trimesh.specs.Mesh.{samePoint}
+use Rattle.weld.specs.declared.chain.Found.{Found}
 use Rattle.weld.specs.declared.chain.Found.the-variants.{At, Missing}
 use Rattle.weld.specs.Points.{Clean, vertexAt, placed}
-use Rattle.weld.specs.Hash.{bucketOf, latest, Chained, linkedIn, Sought}
+use Rattle.weld.specs.Hash.{bucketOf, latest, Chained, linkedIn, FirstAt, Sought, Placing}
 use Rattle.weld.proofs.Clean.{same-data}
 use Rattle.weld.proofs.Places.{placed-at, placed-before, apart}
 
@@ -110,18 +111,43 @@ module _ (vs : List Float) (ws : List ℕ) (places base count : ℕ) (h : Chaine
       let l : m < count = omega arith in
       omega (arith, h .nexts m l, latest-le places vs (bucketOf places (vertexAt vs m)) m)
 
-  pub walk-at : (k m : ℕ) → Walk vs places base count p k → k ≡ suc m → base < k → samePoint (vertexAt vs m) p ≡ true → Sought vs base count p (At m)
-  walk-at k m w e l s =
-      let i : m < count = omega arith in
+  -- a vertex of this part that equals p is the first, since no two of its vertices are equal
+  pub first-at : (m : ℕ) → base ≤ m → m < count → samePoint (vertexAt vs m) p ≡ true → FirstAt vs base count p m
+  first-at m l i s =
       record {
-        low = omega arith;
+        low = l;
         high = i;
         equal = s;
         first = λ j a r t. h .fresh j m a r i (ap (samePoint (vertexAt vs j)) (same-data (vertexAt vs m) p (h .clean m i) cp s) ∙ t);
       }
 
+  pub walk-at : (k m : ℕ) → Walk vs places base count p k → k ≡ suc m → base < k → samePoint (vertexAt vs m) p ≡ true → Sought vs base count p (At m)
+  walk-at k m w e l s = first-at m (omega arith) (omega arith) s
+
   pub walk-end : (k : ℕ) → Walk vs places base count p k → k ≤ base → Sought vs base count p Missing
   walk-end k w l = λ m a i s. w .past m (le-trans l a) i a s
+
+-- ---- what was found stays found
+module _ (vs : List Float) (base count : ℕ) (p q : Vec3) (m : ℕ) (F : FirstAt vs base count q m) where
+  pub first-stays : FirstAt (placed vs count p) base (count + 1) q m
+  first-stays =
+      record {
+        low = F .low;
+        high = omega (arith, F .high);
+        equal = ap (λ (v : Vec3). samePoint v q) (placed-before vs count p m (F .high)) ∙ F .equal;
+        first = λ j a r t. F .first j a r (sym (ap (λ (v : Vec3). samePoint v q) (placed-before vs count p j (omega (arith, F .high)))) ∙ t);
+      }
+
+-- the new vertex is found
+pub first-new : (vs : List Float) (base count : ℕ) (p : Vec3) → base ≤ count → 3 * count + 3 ≤ length vs → samePoint p p ≡ true → Sought vs base count p Missing
+    → FirstAt (placed vs count p) base (count + 1) p count
+first-new vs base count p b l s miss =
+    record {
+      low = b;
+      high = omega arith;
+      equal = ap (λ (v : Vec3). samePoint v p) (placed-at vs count p l) ∙ s;
+      first = λ j a r t. miss j a r (sym (ap (λ (v : Vec3). samePoint v p) (placed-before vs count p j r)) ∙ t);
+    }
 
 -- ---- a vertex is appended to the chains
 
@@ -200,8 +226,32 @@ module _ (vs : List Float) (ws : List ℕ) (places base count : ℕ) (h : Chaine
         room = simp length-set (h .room);
         links = simp length-set (h .links);
         within = omega arith;
+        based = omega (arith, h .based);
         heads = heads';
         nexts = nexts';
         clean = clean';
         fresh = fresh' miss;
       }
+
+-- ---- the cases of `place_of`
+
+-- what was found, by its case
+pub told : {f g : Found} (vs : List Float) (base count : ℕ) (p : Vec3) → f ≡ g → Sought vs base count p f → Sought vs base count p g
+told vs base count p e F = subst (Sought vs base count p) e F
+
+module _ (places base count : ℕ) (p : Vec3) (vs : List Float) (ws : List ℕ) where
+  pub placing-found : (m : ℕ) → FirstAt vs base count p m → Placing places base count p vs ws m vs ws
+  placing-found m F =
+      record { found = λ l. (F, refl, refl); new = λ e. absurd (omega (arith, F .high)); full = λ l. absurd (omega (arith, F .high)) }
+
+  pub placing-new : (b : ℕ) → b ≡ bucketOf places p → b < places → Sought vs base count p Missing → count < places
+      → Placing places base count p vs ws count (placed vs count p) (linkedIn ws places count b)
+  placing-new b e l F k =
+      record {
+        found = λ r. absurd (omega arith);
+        new = λ r. (F, k, subst (λ (x : ℕ). x < places) e l, refl, ap (linkedIn ws places count) e);
+        full = λ r. absurd (omega arith);
+      }
+
+  pub placing-full : Sought vs base count p Missing → places ≤ count → Placing places base count p vs ws (count + 1) vs ws
+  placing-full F k = record { found = λ r. absurd (omega arith); new = λ r. absurd (omega arith); full = λ r. (F, k, refl, refl) }

@@ -5,7 +5,7 @@ use lib.Dec.{T}
 use lib.Ieee.{Float, fits, eq, add, ofBits, binary64}
 use lib.Ieee.Fits.{add-fits, and-l, and-r}
 use lib.Ieee.Scale.{finite}
-use Rattle.ieee.specs.Same.{canon, plus-zero, canon-finite, canon-canon, same→canon, eq→same, true-T}
+use Rattle.ieee.specs.Same.{canon, plus-zero, canon-finite, canon-canon, same→canon, eq→same, true-T, T-true, finite-not-nan, eq-refl}
 use Rattle.math.specs.declared.Vec3.{Vec3}
 use Rattle.trimesh.specs.Mesh.{samePoint, plusZeroV, finiteV}
 use Rattle.trimesh.specs.SelfSame.{zero-bits}
@@ -44,3 +44,10 @@ clean-after p a b c h =
       cy = plus-clean (p .y) b (and-r (finite (p .x)) (finite (p .y)) xy);
       cz = plus-clean (p .z) c (and-r (finite (p .x) && finite (p .y)) (finite (p .z)) t);
     }
+
+-- a clean point equals itself
+pub clean-self : (p : Vec3) → Clean p → samePoint p p ≡ true
+unfolding samePoint
+clean-self p c =
+    let e : (x : Float) → CleanFloat x → eq x x ≡ true = λ x h. T-true (eq x x) (eq-refl x (finite-not-nan x (h .finitely))) in
+    λ i. e (p .x) (c .cx) i && e (p .y) (c .cy) i && e (p .z) (c .cz) i

@@ -21,6 +21,7 @@ zero-chains vs ws places a b z =
       room = a;
       links = b;
       within = zero-le;
+      based = zero-le;
       heads = λ d k. z d;
       nexts = λ m k. absurd (not-suc-le-zero k);
       clean = λ m k. absurd (not-suc-le-zero k);
@@ -55,7 +56,7 @@ parted w =
           let C = R .linked .chained in
           record {
             linked = record {
-              chained = record { room = C .room; links = C .links; within = C .within; heads = C .heads; nexts = C .nexts; clean = C .clean; fresh = λ j m g r k. absurd (omega arith) };
+              chained = record { room = C .room; links = C .links; within = C .within; based = omega arith; heads = C .heads; nexts = C .nexts; clean = C .clean; fresh = λ j m g r k. absurd (omega arith) };
               places = R .linked .places;
             };
             faces = R .faces;

@@ -1,9 +1,9 @@
 -- What welding one point does to the mesh that the slices hold. Assumes nothing.
 use mathlib.Core.Path.{_≡_, refl, sym, ap, _∙_, subst}
-use mathlib.Core.Bool.{true, false}
+use mathlib.Core.Bool.{Bool, true, false}
 use mathlib.Core.List.{List, [], _∷_, _++_, map, append-assoc}
 use mathlib.Core.Logic.{inl, inr}
-use Prim.Native.Nat.{ℕ, _+_, _-_, _*_, _≤_, _<_}
+use Prim.Native.Nat.{ℕ, _+_, _-_, _*_, _≤_, _<_, _^_}
 use native.Mathlib.Omega.{arith}
 use lib.ListN.{length, getD, take, length-set, length-append, length-map}
 use lib.Seq.{getD-append-add}
@@ -13,15 +13,15 @@ use Rattle.balance.specs.Soup.{Tri, mapTri}
 use Rattle.trimesh.specs.Mesh.{Mesh, samePoint, firstSight, append}
 use Rattle.trimesh.specs.Slices.{flatV}
 use Rattle.trimesh.specs.WeldLaws.{sight-at, sight-none, with-seen, with-new, with-longer, flatV-append}
-use Rattle.weld.specs.declared.chain.Found.{Found}
 use Rattle.weld.specs.declared.chain.Found.the-variants.{Missing}
 use Rattle.weld.specs.declared.Welder.{Welder}
 use Rattle.weld.specs.Points.{Clean, vertexAt, placed}
 use Rattle.weld.specs.Hash.{bucketOf, linkedIn, FirstAt, Sought}
 use Rattle.weld.specs.Rep.{Held, held, Linked, Holds, Over, Rep}
-use Rattle.weld.specs.Steps.{shut, withVertex, PointRuns}
+use Rattle.weld.specs.Steps.{shut, withVertex, PointRuns, Seen}
 use Rattle.weld.proofs.Places.{take-three, take-vertex, flatV-at, places-limit, places-long}
-use Rattle.weld.proofs.Chains.{not-both, chain-more}
+use Rattle.weld.proofs.Clean.{clean-self}
+use Rattle.weld.proofs.Chains.{not-both, first-stays, first-new, chain-more}
 
 -- ---- a look-up in the slice is a look-up in the part
 module _ (us ws : List Vec3) (vs : List Float) (count : ℕ) (front : flatV (us ++ ws) ≡ take (3 * count) vs) (long : length (us ++ ws) ≡ count) (p : Vec3) where
@@ -83,10 +83,6 @@ pub three-more : (n : ℕ) → 3 * (n + 1) ≡ 3 * n + 3
 three-more n = omega arith
 
 -- ---- the cases of `weld_point`
--- what was found, by its case
-pub told : {f g : Found} (vs : List Float) (base count : ℕ) (p : Vec3) → f ≡ g → Sought vs base count p f → Sought vs base count p g
-told vs base count p e F = subst (Sought vs base count p) e F
-
 module _ (w : Welder) (vs : List Float) (ws : List ℕ) (L : Linked w vs ws) (p : Vec3) where
   abbrev here : List ℕ → Held
   here ts = held w vs ts ws
@@ -117,6 +113,8 @@ module _ (w : Welder) (vs : List Float) (ws : List ℕ) (L : Linked w vs ws) (p 
         small = omega arith;
         rep = λ D S ts R. rep-shut D S (withVertex S p) (here ts) f (with-longer (S .vertices) p) (omega arith) R;
         number = λ D S ts R q. absurd (not-both (w .room) q f);
+        here = λ q. absurd (not-both (w .room) q f);
+        stays = λ q. absurd (not-both (w .room) q f);
       }
 
   pub point-at : (m : ℕ) → w .room ≡ true → FirstAt vs (w .base) (w .count) p m → PointRuns p w vs ws (record { number = m; st = w }) vs ws
@@ -130,6 +128,8 @@ module _ (w : Welder) (vs : List Float) (ws : List ℕ) (L : Linked w vs ws) (p 
         rep = λ D S ts R. subst (λ (us : List Vec3). Rep D (record { vertices = us; triangles = S .triangles }) (here ts)) (sym (with-seen (S .vertices) p (omega
             (arith, F .high, seen D S ts m e F R, long D S ts e R)))) R;
         number = λ D S ts R q. seen D S ts m e F R;
+        here = λ q. F;
+        stays = λ q x n G. G;
       }
 
   pub point-full : w .room ≡ true → Sought vs (w .base) (w .count) p Missing → w .places ≤ w .count → PointRuns p w vs ws (record { number = 0; st = shut w }) vs ws
@@ -147,6 +147,8 @@ module _ (w : Welder) (vs : List Float) (ws : List ℕ) (L : Linked w vs ws) (p 
               (inl (omega (arith, length-append (append D S .vertices) (p ∷ []), R .holds e .count, L .places)));
         };
         number = λ D S ts R q. absurd (not-both false q refl);
+        here = λ q. absurd (not-both false q refl);
+        stays = λ q. absurd (not-both false q refl);
       }
 
   abbrev next : Welder
@@ -186,4 +188,31 @@ module _ (w : Welder) (vs : List Float) (ws : List ℕ) (L : Linked w vs ws) (p 
           over = λ q. absurd (not-both (w .room) e q);
         };
         number = λ D S ts R q. omega (arith, unseen D S ts e F R, long D S ts e R);
+        here = λ q. first-new vs (w .base) (w .count) p (L .chained .based) (omega (arith, L .chained .room)) (clean-self p cp) F;
+        stays = λ q x n G. first-stays vs (w .base) (w .count) p x n G;
       }
+
+-- a point that was seen, or any after there was no room
+pub point-known : (w : Welder) (vs : List Float) (ws : List ℕ) (p : Vec3) (m : ℕ) → Linked w vs ws → m < 2 ^ 32 → (w .room ≡ true → FirstAt vs (w .base) (w .count) p m)
+    → PointRuns p w vs ws (record { number = m; st = w }) vs ws
+point-known w vs ws p m L l F = go (w .room) refl
+  where
+    go : (b : Bool) → w .room ≡ b → PointRuns p w vs ws (record { number = m; st = w }) vs ws
+    go true e = point-at w vs ws L p m e (F e)
+    go false e =
+        let P = point-shut w vs ws L p e in
+        record {
+          linked = P .linked;
+          faces = P .faces;
+          finite = P .finite;
+          sticky = P .sticky;
+          small = l;
+          rep = P .rep;
+          number = λ D S ts R q. absurd (not-both (w .room) q e);
+          here = λ q. absurd (not-both (w .room) q e);
+          stays = λ q. absurd (not-both (w .room) q e);
+        }
+
+-- a number that was seen is a 32-bit number
+pub seen-small : (w : Welder) (vs : List Float) (ws : List ℕ) (p : Vec3) (m : ℕ) → Linked w vs ws → Seen vs w p m → m < 2 ^ 32
+seen-small w vs ws p m L s = omega (arith, s .high, L .places, places-limit vs, L .chained .within)

@@ -10,15 +10,18 @@ use Rattle.math.specs.declared.Vec3.{Vec3}
 use Rattle.trimesh.specs.Mesh.{samePoint}
 use Rattle.weld.specs.declared.chain.Found.{Found}
 use Rattle.weld.specs.declared.chain.Found.the-variants.{At, Missing}
-use Rattle.weld.specs.Points.{Clean, vertexAt}
+use Rattle.weld.specs.Points.{Clean, vertexAt, placed}
 
--- one coordinate's bits mixed into a hash
-unfoldable pub mixed : ℕ → ℕ → ℕ
-mixed h bits = ((h + bits % 4294967296) % 4294967296 * 2654435761 % 4294967296 + bits / 4294967296) % 4294967296 * 2246822519 / 65536 % 4294967296
+-- one coordinate's bits, their halves multiplied apart
+unfoldable pub spreadOf : ℕ → ℕ → ℕ → ℕ
+spreadOf bits low high = (bits % 4294967296 * low + bits / 4294967296 * high) / 2147483648
 
 -- the bucket of a point
 unfoldable pub bucketOf : ℕ → Vec3 → ℕ
-bucketOf places p = mixed (mixed (mixed 0 (toBits binary64 (p .x))) (toBits binary64 (p .y))) (toBits binary64 (p .z)) % places
+bucketOf places p =
+    (spreadOf (toBits binary64 (p .x)) 1640531527 2097192037
+    + spreadOf (toBits binary64 (p .y)) 1540483477 1566083941
+    + spreadOf (toBits binary64 (p .z)) 1181783497 2027808485) % 4294967296 * places / 4294967296
 
 -- one more than the largest m below n whose vertex is in the bucket b, or 0
 unfoldable pub latest : ℕ → List Float → ℕ → ℕ → ℕ
@@ -30,6 +33,7 @@ pub record Chained (vs : List Float) (ws : List ℕ) (places base count : ℕ) :
   pub room : 3 * places ≤ length vs
   pub links : 2 * places ≤ length ws
   pub within : count ≤ places
+  pub based : base ≤ count
   pub heads : (b : ℕ) → b < places → getD ws b 0 ≡ latest places vs b count
   pub nexts : (m : ℕ) → m < count → getD ws (places + m) 0 ≡ latest places vs (bucketOf places (vertexAt vs m)) m
   pub clean : (m : ℕ) → m < count → Clean (vertexAt vs m)
@@ -50,3 +54,9 @@ pub record FirstAt (vs : List Float) (base count : ℕ) (p : Vec3) (m : ℕ) : T
 abbrev pub Sought : List Float → ℕ → ℕ → Vec3 → Found → Type 0
 Sought vs base count p (At m) = FirstAt vs base count p m
 Sought vs base count p Missing = (m : ℕ) → base ≤ m → m < count → samePoint (vertexAt vs m) p ≡ true → ⊥
+
+-- p got the number m: it was found, and nothing changed; or it is new, and vertex `count`; or there was no place for it
+pub record Placing (places base count : ℕ) (p : Vec3) (vs : List Float) (ws : List ℕ) (m : ℕ) (vs′ : List Float) (ws′ : List ℕ) : Type 0 where
+  pub found : m < count → FirstAt vs base count p m × (vs′ ≡ vs) × (ws′ ≡ ws)
+  pub new : m ≡ count → Sought vs base count p Missing × (count < places) × (bucketOf places p < places) × (vs′ ≡ placed vs count p) × (ws′ ≡ linkedIn ws places count (bucketOf places p))
+  pub full : count < m → Sought vs base count p Missing × (places ≤ count) × (vs′ ≡ vs) × (ws′ ≡ ws)

@@ -1,10 +1,11 @@
 // The hash chains in the work slice. They find the vertex that equals a point, as the `HashMap` of from_soup does.
 ghost use mathlib.Core.Path.{_≡_};
+ghost use mathlib.Core.Bool.{true};
 ghost use Prim.Native.Nat.{_+_, _*_, _<_, _≤_, _^_};
 ghost use lib.ListN.{length};
 ghost use Rattle.trimesh.specs.Mesh.{samePoint};
 ghost use Rattle.weld.specs.Points.{Clean, vertexAt, placed};
-ghost use Rattle.weld.specs.Hash.{mixed, bucketOf, Chained, linkedIn, Sought};
+ghost use Rattle.weld.specs.Hash.{spreadOf, bucketOf, Chained, linkedIn, Sought, Placing};
 use math::Vec3;
 
 pub enum Found {
@@ -18,24 +19,24 @@ fn wide(x: u32) -> usize
     x as usize
 }
 
-// One coordinate's bits mixed into a hash.
-fn mix(h: u64, bits: u64) -> u64
-    requires { ⌜ h < 2 ^ 32 ⌝ }
-    ensures { λ r. ⌜ (r ≡ mixed h bits) × (r < 2 ^ 32) ⌝ }
+// One coordinate's bits, their halves multiplied apart, so that no sum wraps.
+fn spread(bits: u64, low: u64, high: u64) -> u64
+    requires { ⌜ (low < 2 ^ 31) × (high < 2 ^ 31) ⌝ }
+    ensures { λ r. ⌜ (r ≡ spreadOf bits low high) × (r < 2 ^ 33) ⌝ }
 {
-    let low = (h + bits % 4294967296) % 4294967296 * 2654435761 % 4294967296;
-    (low + bits / 4294967296) % 4294967296 * 2246822519 / 65536 % 4294967296
+    (bits % 4294967296 * low + bits / 4294967296 * high) / 2147483648
 }
 
 // The bucket of a point.
 pub fn bucket_of(p: Vec3, places: usize) -> usize
-    requires { ⌜ (0 < places) × Clean p ⌝ }
+    requires { ⌜ (0 < places) × (places < 2 ^ 32) × Clean p ⌝ }
     ensures { λ r. ⌜ (r ≡ bucketOf places p) × (r < places) ⌝ }
 {
-    let a = mix(0, f64::to_bits(p.x));
-    let b = mix(a, f64::to_bits(p.y));
-    let c = mix(b, f64::to_bits(p.z));
-    (c as usize) % places
+    let a = spread(f64::to_bits(p.x), 1640531527, 2097192037);
+    let b = spread(f64::to_bits(p.y), 1540483477, 1566083941);
+    let c = spread(f64::to_bits(p.z), 1181783497, 2027808485);
+    let sum = (a + b + c) % 4294967296;
+    (sum as usize) * places / 4294967296
 }
 
 fn equal(a: Vec3, b: Vec3) -> bool
@@ -70,6 +71,20 @@ fn place(vertices: &mut [f64], m: usize, p: Vec3)
     vertices[at] = p.x;
     vertices[at + 1] = p.y;
     vertices[at + 2] = p.z;
+}
+
+// Whether vertex m is one from `base` below `count` and equals p.
+pub fn is_at(vertices: &[f64], base: usize, count: usize, m: usize, p: Vec3) -> bool
+    requires { ⌜ 3 * count ≤ length (now vertices) ⌝ }
+    ensures { λ r. ⌜ (r ≡ true → (base ≤ m) × (m < count) × (samePoint (vertexAt (now (vertices .entry)) m) p ≡ true)) ⌝ }
+{
+    if m < base {
+        return false;
+    }
+    if count <= m {
+        return false;
+    }
+    equal(vertex(vertices, m), p)
 }
 
 // The first of the vertices from `base` below `count` that equals p. Vertices below `base` are of earlier parts.
@@ -115,4 +130,33 @@ pub fn append(
     let head = work[bucket];
     work[places + count] = head;
     work[bucket] = (count + 1) as u32;
+}
+
+// The number of p: that of the first of the vertices from `base` below `count` that equals it; or `count`, with which it is
+// written; or `count + 1` where no place is left.
+pub fn place_of(
+    vertices: &mut [f64],
+    work: &mut [u32],
+    places: usize,
+    base: usize,
+    count: usize,
+    p: Vec3,
+) -> usize
+    requires { ⌜ Chained (now vertices) (now work) places base count ⌝ }
+    requires { ⌜ (0 < places) × (places < 2 ^ 32) × Clean p ⌝ }
+    ensures { λ r. ⌜ Placing places base count p (now (vertices .entry)) (now (work .entry)) r (now (vertices .exit)) (now (work .exit)) ⌝ }
+{
+    let bucket = bucket_of(p, places);
+    let found = find(vertices, work, places, base, count, bucket, p);
+    match found {
+        Found::At(m) => m,
+        Found::Missing => {
+            if count < places {
+                append(vertices, work, places, count, bucket, p);
+                count
+            } else {
+                count + 1
+            }
+        }
+    }
 }

@@ -1,7 +1,7 @@
 // from_soup of src/tessellate.rs, one triangle at a time: the soup is not stored. A mesh lies in lent slices, three floats a
 // vertex and three numbers a triangle; the work slice holds hash chains.
 ghost use mathlib.Core.Path.{_≡_};
-ghost use mathlib.Core.Bool.{true};
+ghost use mathlib.Core.Bool.{true, _&&_};
 ghost use mathlib.Core.List.{[], _∷_};
 ghost use Prim.Native.Nat.{ℕ, _*_, _/_, _≤_, _<_, _^_, min};
 ghost use lib.ListN.{length, getD};
@@ -9,7 +9,7 @@ ghost use lib.Dec.{T};
 ghost use Rattle.trimesh.specs.Mesh.{finiteV, plusZeroV};
 ghost use Rattle.weld.specs.Points.{Clean};
 ghost use Rattle.weld.specs.Rep.{limit, held, placesOf, Linked, Ready, Runs, Begun, Parted};
-ghost use Rattle.weld.specs.Steps.{unfinite, shut, PointRuns, TriangleRuns, PointsRun};
+ghost use Rattle.weld.specs.Steps.{unfinite, shut, PointRuns, TriangleRuns, PointsRun, Seen, QuadRuns, LastRuns};
 use math::Vec3;
 
 mod chain;
@@ -29,6 +29,16 @@ pub struct Welder {
 struct Welded {
     number: usize,
     st: Welder,
+}
+
+// The state after a quad, and what its points' numbers were. Callers hand the numbers back as guesses: a guess that is
+// wrong costs a look-up, and nothing else.
+pub struct Quad {
+    pub st: Welder,
+    pub a: usize,
+    pub b: usize,
+    pub c: usize,
+    pub d: usize,
 }
 
 // Nothing is welded yet. The work slice is all zero.
@@ -99,7 +109,7 @@ pub fn weld_triangle(
     )
 }
 
-// Soup::quad: the triangles a, b, c and a, c, d.
+// Soup::quad: the triangles a, b, c and a, c, d. The last three arguments are guesses at the numbers of a, b and d.
 pub fn weld_quad(
     vertices: &mut [f64],
     triangles: &mut [u32],
@@ -109,14 +119,183 @@ pub fn weld_quad(
     b: Vec3,
     c: Vec3,
     d: Vec3,
-) -> Welder
+    na: usize,
+    nb: usize,
+    nd: usize,
+) -> Quad
     requires { ⌜ Ready (held w (now vertices) (now triangles) (now work)) ⌝ }
     ensures { λ r. ⌜ Runs ((a, b, c) ∷ (a, c, d) ∷ [])
         (held w (now (vertices .entry)) (now (triangles .entry)) (now (work .entry)))
-        (held r (now (vertices .exit)) (now (triangles .exit)) (now (work .exit))) ⌝ }
+        (held (r .st) (now (vertices .exit)) (now (triangles .exit)) (now (work .exit))) ⌝ }
 {
-    let u = weld_triangle(vertices, triangles, work, w, a, b, c);
-    weld_triangle(vertices, triangles, work, u, a, c, d)
+    let finite = w.finite;
+    if !finite {
+        return unnumbered(w);
+    }
+    if !are_finite(a, b, c, d) {
+        return unnumbered(stopped(w));
+    }
+    weld_corners(
+        vertices,
+        triangles,
+        work,
+        w,
+        plus_zero(a),
+        plus_zero(b),
+        plus_zero(c),
+        plus_zero(d),
+        na,
+        nb,
+        nd,
+    )
+}
+
+// The two triangles of a quad after `+ 0.0`. In most quads of a grid all points but c were seen before.
+fn weld_corners(
+    vertices: &mut [f64],
+    triangles: &mut [u32],
+    work: &mut [u32],
+    w: Welder,
+    a: Vec3,
+    b: Vec3,
+    c: Vec3,
+    d: Vec3,
+    na: usize,
+    nb: usize,
+    nd: usize,
+) -> Quad
+    requires { ⌜ Ready (held w (now vertices) (now triangles) (now work)) ⌝ }
+    requires { ⌜ Clean a × Clean b × Clean c × Clean d ⌝ }
+    ensures { λ r. ⌜ QuadRuns a b c d
+        (held w (now (vertices .entry)) (now (triangles .entry)) (now (work .entry)))
+        (held (r .st) (now (vertices .exit)) (now (triangles .exit)) (now (work .exit))) ⌝ }
+{
+    let room = w.room;
+    if room {
+        if are_at(vertices, w, a, b, d, na, nb, nd) {
+            return weld_last(vertices, triangles, work, w, c, na, nb, nd);
+        }
+    }
+    weld_both(vertices, triangles, work, w, a, b, c, d, na, nb, nd)
+}
+
+// Whether the guesses at the numbers of a, b and d are right.
+fn are_at(
+    vertices: &[f64],
+    w: Welder,
+    a: Vec3,
+    b: Vec3,
+    d: Vec3,
+    na: usize,
+    nb: usize,
+    nd: usize,
+) -> bool
+    requires { ⌜ 3 * w .count ≤ length (now vertices) ⌝ }
+    ensures { λ r. ⌜ (r ≡ true → Seen (now (vertices .entry)) w a na × Seen (now (vertices .entry)) w b nb × Seen (now (vertices .entry)) w d nd) ⌝ }
+{
+    if chain::is_at(vertices, w.base, w.count, na, a) {
+        if chain::is_at(vertices, w.base, w.count, nb, b) {
+            return chain::is_at(vertices, w.base, w.count, nd, d);
+        }
+    }
+    false
+}
+
+// The two triangles of a quad of which a, b and d have the numbers na, nb and nd: one look-up.
+fn weld_last(
+    vertices: &mut [f64],
+    triangles: &mut [u32],
+    work: &mut [u32],
+    w: Welder,
+    c: Vec3,
+    na: usize,
+    nb: usize,
+    nd: usize,
+) -> Quad
+    requires { ⌜ Ready (held w (now vertices) (now triangles) (now work)) ⌝ }
+    requires { ⌜ Clean c × (w .room ≡ true) × (na < 2 ^ 32) × (nb < 2 ^ 32) × (nd < 2 ^ 32) ⌝ }
+    ensures { λ r. ⌜ LastRuns c na nb nd
+        (held w (now (vertices .entry)) (now (triangles .entry)) (now (work .entry)))
+        (held (r .st) (now (vertices .exit)) (now (triangles .exit)) (now (work .exit))) ⌝ }
+{
+    let t = look_up(vertices, work, w, c);
+    let nc = t.number;
+    let st = t.st;
+    let u = add_triangle(triangles, st, na, nb, nc);
+    let v = add_triangle(triangles, u, na, nc, nd);
+    Quad {
+        st: v,
+        a: na,
+        b: nb,
+        c: nc,
+        d: nd,
+    }
+}
+
+// The same where a guess is wrong: each of the four points gets its number.
+fn weld_both(
+    vertices: &mut [f64],
+    triangles: &mut [u32],
+    work: &mut [u32],
+    w: Welder,
+    a: Vec3,
+    b: Vec3,
+    c: Vec3,
+    d: Vec3,
+    na: usize,
+    nb: usize,
+    nd: usize,
+) -> Quad
+    requires { ⌜ Ready (held w (now vertices) (now triangles) (now work)) ⌝ }
+    requires { ⌜ Clean a × Clean b × Clean c × Clean d ⌝ }
+    ensures { λ r. ⌜ QuadRuns a b c d
+        (held w (now (vertices .entry)) (now (triangles .entry)) (now (work .entry)))
+        (held (r .st) (now (vertices .exit)) (now (triangles .exit)) (now (work .exit))) ⌝ }
+{
+    let pa = weld_point(vertices, work, w, a, na);
+    let sa = pa.st;
+    let pb = weld_point(vertices, work, sa, b, nb);
+    let sb = pb.st;
+    let pc = look_up(vertices, work, sb, c);
+    let sc = pc.st;
+    let u = add_triangle(triangles, sc, pa.number, pb.number, pc.number);
+    let pd = weld_point(vertices, work, u, d, nd);
+    let sd = pd.st;
+    let v = add_triangle(triangles, sd, pa.number, pc.number, pd.number);
+    Quad {
+        st: v,
+        a: pa.number,
+        b: pb.number,
+        c: pc.number,
+        d: pd.number,
+    }
+}
+
+// A quad that was not welded: any guess will do.
+fn unnumbered(w: Welder) -> Quad
+    ensures { λ r. ⌜ r .st ≡ w ⌝ }
+{
+    Quad {
+        st: w,
+        a: 0,
+        b: 0,
+        c: 0,
+        d: 0,
+    }
+}
+
+// Whether four points are finite.
+fn are_finite(a: Vec3, b: Vec3, c: Vec3, d: Vec3) -> bool
+    ensures { λ r. ⌜ r ≡ (finiteV a && finiteV b && finiteV c && finiteV d) ⌝ }
+{
+    if is_finite(a) {
+        if is_finite(b) {
+            if is_finite(c) {
+                return is_finite(d);
+            }
+        }
+    }
+    false
 }
 
 // The whole places of a slice of this length, three entries each, at most 4,294,967,295.
@@ -199,17 +378,35 @@ fn weld_points(
         (held w (now (vertices .entry)) (now (triangles .entry)) (now (work .entry)))
         (held r (now (vertices .exit)) (now (triangles .exit)) (now (work .exit))) ⌝ }
 {
-    let u = weld_point(vertices, work, w, a);
+    let u = look_up(vertices, work, w, a);
     let su = u.st;
-    let v = weld_point(vertices, work, su, b);
+    let v = look_up(vertices, work, su, b);
     let sv = v.st;
-    let t = weld_point(vertices, work, sv, c);
+    let t = look_up(vertices, work, sv, c);
     let st = t.st;
     add_triangle(triangles, st, u.number, v.number, t.number)
 }
 
+// Gives a point its number, a guess at which is tried before the look-up.
+fn weld_point(vertices: &mut [f64], work: &mut [u32], w: Welder, p: Vec3, guess: usize) -> Welded
+    requires { ⌜ Linked w (now vertices) (now work) × Clean p ⌝ }
+    ensures { λ r. ⌜ PointRuns p w (now (vertices .entry)) (now (work .entry)) r (now (vertices .exit)) (now (work .exit)) ⌝ }
+{
+    let room = w.room;
+    if !room {
+        return Welded { number: 0, st: w };
+    }
+    if chain::is_at(vertices, w.base, w.count, guess, p) {
+        return Welded {
+            number: guess,
+            st: w,
+        };
+    }
+    look_up(vertices, work, w, p)
+}
+
 // Gives a point its number: that of the first equal vertex of this part, or the next one, with which it is written.
-fn weld_point(vertices: &mut [f64], work: &mut [u32], w: Welder, p: Vec3) -> Welded
+fn look_up(vertices: &mut [f64], work: &mut [u32], w: Welder, p: Vec3) -> Welded
     requires { ⌜ Linked w (now vertices) (now work) × Clean p ⌝ }
     ensures { λ r. ⌜ PointRuns p w (now (vertices .entry)) (now (work .entry)) r (now (vertices .exit)) (now (work .exit)) ⌝ }
 {
@@ -226,31 +423,26 @@ fn weld_point(vertices: &mut [f64], work: &mut [u32], w: Welder, p: Vec3) -> Wel
             st: full(w),
         };
     }
-    let bucket = chain::bucket_of(p, places);
-    let found = chain::find(vertices, work, places, base, count, bucket, p);
-    match found {
-        chain::Found::At(m) => Welded { number: m, st: w },
-        chain::Found::Missing => {
-            if count < places {
-                chain::append(vertices, work, places, count, bucket, p);
-                Welded {
-                    number: count,
-                    st: Welder {
-                        base,
-                        count: count + 1,
-                        places,
-                        faces: w.faces,
-                        finite: w.finite,
-                        room,
-                    },
-                }
-            } else {
-                Welded {
-                    number: 0,
-                    st: full(w),
-                }
-            }
-        }
+    let number = chain::place_of(vertices, work, places, base, count, p);
+    if number < count {
+        return Welded { number, st: w };
+    }
+    if number == count {
+        return Welded {
+            number,
+            st: Welder {
+                base,
+                count: count + 1,
+                places,
+                faces: w.faces,
+                finite: w.finite,
+                room,
+            },
+        };
+    }
+    Welded {
+        number: 0,
+        st: full(w),
     }
 }
 

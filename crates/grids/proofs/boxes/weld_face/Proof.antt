@@ -1,6 +1,8 @@
 -- `grids::boxes::weld_face` meets its contract. Assumes nothing.
-use Rattle.grids.proofs.Faces.{face-within, face-runs}
+use Rattle.grids.proofs.Faces.{face-asks, face-runs}
 use borrow.Author.Needs.{needs}
+use denote.Ref.{now}
+use lib.ListN.{length}
 use Rattle.grids.proofs.boxes.weld_face.Statement.{statement}
 use Rattle.grids.proofs.boxes.weld_face.Tie as tie
 
@@ -23,25 +25,28 @@ slice-aggregate-weld-grid : tie.Need-slice-aggregate-weld-grid
 slice-aggregate-weld-grid c = search needs
 
 weld-grid-requires : tie.Need-weld-grid-requires
-weld-grid-requires c κs = let x = c .before .before .before .before .before .before .before .before .before .before in (x .pre .0, face-within (x .args .lo) (x .args .hi) (x
-    .args .n) (x .args .turns) (x .args .chart) (x .args .k) _ _ (x .pre .1 .1) (x .pre .1 .0) (c .before .before .before .before .before .before .line-of .ensures) (c .before
-    .before .before .before .before .line-of2 .ensures))
+weld-grid-requires c κs =
+    let x = c .before .before .before .before .before .before .before .before .before .before .before .before .before in (
+      x .pre .0,
+      face-asks (x .args .lo) (x .args .hi) (x .args .n) (x .args .turns) (x .args .chart) (x .args .k) (c .before .before .before .before .before .end-of .result) (c .before .before .before .before .before .before .before .line-of .result) (c .before .before .before .before .before .before .line-of2 .result) (now (x .args .table)) (length (now (x .args .numbers))) (x .pre .1 .0) (x .pre .1 .1)
+          (c .before .before .before .before .before .before .before .line-of .ensures) (c .before .before .before .before .before .before .line-of2 .ensures),
+    )
 
 same-length : tie.Need-same-length
-same-length c = c .before .before .before .before .before .before .weld-grid .ensures .vlong
+same-length c = c .before .before .before .before .before .before .before .before .weld-grid .ensures .vlong
 
 same-length-2 : tie.Need-same-length-2
-same-length-2 c = c .before .before .before .before .before .before .weld-grid .ensures .tlong
+same-length-2 c = c .before .before .before .before .before .before .before .before .weld-grid .ensures .tlong
 
 same-length-3 : tie.Need-same-length-3
-same-length-3 c = c .before .before .before .before .before .before .weld-grid .ensures .wlong
+same-length-3 c = c .before .before .before .before .before .before .before .before .weld-grid .ensures .wlong
+
+same-length-4 : tie.Need-same-length-4
+same-length-4 c = search needs
 
 returns : tie.Need-returns
-returns c = let x = c .before .before .before .before .before .before .before .before .before .before .before .before .before .before .before .before .before in face-runs (x
-    .args .lo) (x .args .hi) (x .args .n) (x .args .turns) (x .args .chart) _ (x .args .k) (x .args .side) _ _ _ _ _ (c .before .before .before .before .before .before .before
-    .before .before .before .before .before .before .line-of .ensures) (c .before .before .before .before .before .before .before .before .before .before .before .before
-    .line-of2 .ensures) (c .before .before .before .before .before .before .before .before .before .before .before .end-of .ensures) (c .before .before .before .before .before
-    .before .weld-grid .ensures)
+returns c = let x = c .before .before .before .before .before .before .before .before .before .before .before .before .before .before .before .before .before .before .before .before .before .before in face-runs (x
+    .args .lo) (x .args .hi) (x .args .n) (x .args .turns) (x .args .chart) _ (x .args .k) (x .args .side) _ _ _ _ _ (c .before .before .before .before .before .before .before .before .before .before .before .before .before .before .before .before .line-of .ensures) (c .before .before .before .before .before .before .before .before .before .before .before .before .before .before .before .line-of2 .ensures) (c .before .before .before .before .before .before .before .before .before .before .before .before .before .before .end-of .ensures) (c .before .before .before .before .before .before .before .before .weld-grid .ensures)
 
 pub weld-face-spec : {M : Type 1} → statement M
 weld-face-spec =
@@ -57,4 +62,5 @@ weld-face-spec =
     same-length
     same-length-2
     same-length-3
+    same-length-4
     returns)

@@ -17,8 +17,7 @@ returns c = cylinder-short _ _ _ _ _ _ _ _ (c .before .before .before .before .b
 
 returns-2 : tie.Need-returns-2
 unfolding ofBits
-returns-2 c = cylinder-thin _ _ _ _ _ _ _ _ (c .before .before .before .before .before .before .before .pre .0) (c .before .before .before .sub .ensures) (c .before .before
-    .norm .ensures) (c .before .if1 .left) (c .if2 .taken)
+returns-2 c = cylinder-thin _ _ _ _ _ _ _ _ (c .before .before .before .before .before .before .before .pre .0) (c .before .before .before .sub .ensures) (c .before .before .norm .ensures) (c .before .if1 .left) (c .if2 .taken)
 
 div-requires : tie.Need-div-requires
 div-requires c κs = search needs
@@ -38,9 +37,7 @@ same-length-3 c = c .before .before .before .before .before .before .weld-tube .
 returns-3 : tie.Need-returns-3
 unfolding ofBits
 returns-3 c = cylinder-runs _ _ _ _ _ _ _ _ _ _ (c .before .before .before .before .before .before .before .before .before .before .before .before .before .before .sub .ensures)
-    (c .before .before .before .before .before .before .before .before .before .before .before .before .before .norm .ensures) (c .before .before .before .before .before .before
-    .before .before .before .before .before .before .if1 .left) (c .before .before .before .before .before .before .before .before .before .before .before .if2 .left) (c .before
-    .before .before .before .before .before .before .before .before .before .div .ensures) (c .before .before .before .before .before .before .weld-tube .ensures)
+    (c .before .before .before .before .before .before .before .before .before .before .before .before .before .norm .ensures) (c .before .before .before .before .before .before .before .before .before .before .before .before .if1 .left) (c .before .before .before .before .before .before .before .before .before .before .before .if2 .left) (c .before .before .before .before .before .before .before .before .before .before .div .ensures) (c .before .before .before .before .before .before .weld-tube .ensures)
 
 pub weld-cylinder-spec : {M : Type 1} → statement M
 weld-cylinder-spec =

@@ -1,4 +1,5 @@
 -- `points::around::cylindrical_to_cartesian` meets its contract. Assumes nothing.
+use Rattle.points.specs.Pieces.{cylindricalBy}
 use Rattle.soups.specs.Coords.{cylindricalToCartesian}
 use borrow.Author.Needs.{needs}
 use Rattle.points.proofs.around.cylindrical_to_cartesian.Statement.{statement}
@@ -7,9 +8,13 @@ use Rattle.points.proofs.around.cylindrical_to_cartesian.Tie as tie
 sin-cos-requires : tie.Need-sin-cos-requires
 sin-cos-requires c κs = search needs
 
+cylindrical-by-requires : tie.Need-cylindrical-by-requires
+cylindrical-by-requires c κs = search needs
+
 returns : tie.Need-returns
-unfolding cylindricalToCartesian
+unfolding cylindricalToCartesian cylindricalBy
 returns c = cc
 
 pub cylindrical-to-cartesian-spec : {M : Type 1} → statement M
-cylindrical-to-cartesian-spec = tie.close (tie.spec sin-cos-requires returns)
+cylindrical-to-cartesian-spec =
+    tie.close (tie.spec sin-cos-requires cylindrical-by-requires returns)

@@ -1,15 +1,15 @@
 -- `points::surface::extruded_at` meets its contract. Assumes nothing.
-use Rattle.points.proofs.Surfaces.{round-within}
 use Rattle.points.specs.Pieces.{onExtruded}
+use Rattle.points.proofs.Surfaces.{round-within}
 use borrow.Author.Needs.{needs}
 use Rattle.points.proofs.surface.extruded_at.Statement.{statement}
 use Rattle.points.proofs.surface.extruded_at.Tie as tie
 
-rem-k : tie.Need-rem-k
-rem-k c = search needs
+round-requires : tie.Need-round-requires
+round-requires c κs = search needs
 
 corner-requires : tie.Need-corner-requires
-corner-requires c κs = round-within _ _ _ (c .before .pre .some) (c .before .pre .held)
+corner-requires c κs = round-within _ _ _ _ (c .before .before .pre .some) (c .before .before .pre .held) (c .round .ensures)
 
 height-requires : tie.Need-height-requires
 height-requires c κs = search needs
@@ -23,4 +23,5 @@ returns c = cc
 
 pub extruded-at-spec : {M : Type 1} → statement M
 extruded-at-spec =
-    tie.close (tie.spec rem-k corner-requires height-requires plane-point-requires returns)
+    tie.close
+    (tie.spec round-requires corner-requires height-requires plane-point-requires returns)

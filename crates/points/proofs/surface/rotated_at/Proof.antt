@@ -1,21 +1,15 @@
 -- `points::surface::rotated_at` meets its contract. Assumes nothing.
-use Rattle.points.proofs.Surfaces.{round-within}
 use Rattle.points.specs.Pieces.{onRotated}
+use Rattle.points.proofs.Surfaces.{round-within}
 use borrow.Author.Needs.{needs}
 use Rattle.points.proofs.surface.rotated_at.Statement.{statement}
 use Rattle.points.proofs.surface.rotated_at.Tie as tie
 
-rem-k : tie.Need-rem-k
-rem-k c = search needs
+round-requires : tie.Need-round-requires
+round-requires c κs = search needs
 
 corner-requires : tie.Need-corner-requires
-corner-requires c κs = round-within _ _ _ (c .before .pre .some) (c .before .pre .held)
-
-angle-requires : tie.Need-angle-requires
-angle-requires c κs = search needs
-
-sin-cos-requires : tie.Need-sin-cos-requires
-sin-cos-requires c κs = search needs
+corner-requires c κs = round-within _ _ _ _ (c .before .before .pre .0) (c .before .before .pre .1) (c .round .ensures)
 
 spun-requires : tie.Need-spun-requires
 spun-requires c κs = search needs
@@ -25,6 +19,4 @@ unfolding onRotated
 returns c = cc
 
 pub rotated-at-spec : {M : Type 1} → statement M
-rotated-at-spec =
-    tie.close
-    (tie.spec rem-k corner-requires angle-requires sin-cos-requires spun-requires returns)
+rotated-at-spec = tie.close (tie.spec round-requires corner-requires spun-requires returns)

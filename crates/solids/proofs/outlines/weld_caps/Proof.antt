@@ -13,18 +13,22 @@ use Rattle.solids.proofs.outlines.weld_caps.Statement.{statement}
 use Rattle.solids.proofs.outlines.weld_caps.Tie as tie
 
 abbrev Inv-loop : tie.InvT-loop
-Inv-loop vertices₀ triangles₀ work₀ s corners caps both near far st₀ n t₀ vertices triangles work st t =
+Inv-loop vertices₀ triangles₀ work₀ s corners rows cols caps both near far st₀ n t₀ vertices triangles work st t =
     (t ≤ n)
     × (n ≡ length caps / 3)
     × Runs (capsOf both (λ (i : ℕ). surfaceAt corners s i near) (λ (i : ℕ). surfaceAt corners s i far) (tris (take (3 * t) caps))) (held st₀ vertices₀ triangles₀ work₀)
     (held st vertices triangles work)
 
 abbrev μ-loop : tie.MeasureT-loop
-μ-loop vertices₀ triangles₀ work₀ s corners caps both near far st₀ n t₀ vertices triangles work st t = n - t
+μ-loop vertices₀ triangles₀ work₀ s corners rows cols caps both near far st₀ n t₀ vertices triangles work st t = n - t
 
 loop-holds : tie.Need-loop-holds Inv-loop μ-loop
-loop-holds c = let x = c .before .before .before .before .before in (zero-le, refl, caps-none (x .args .both) (λ (i : ℕ). surfaceAt (now (x .args .corners)) (x .args .s) i (x
-    .args .near)) (λ (i : ℕ). surfaceAt (now (x .args .corners)) (x .args .s) i (x .args .far)) (now (x .args .caps)) _ (x .pre .0))
+loop-holds c = let x = c .before .before .before .before .before .before .before in (
+  zero-le,
+  refl,
+  caps-none (x .args .both) (λ (i : ℕ). surfaceAt (now (x .args .corners)) (x .args .s) i (x
+      .args .near)) (λ (i : ℕ). surfaceAt (now (x .args .corners)) (x .args .s) i (x .args .far)) (now (x .args .caps)) _ (x .pre .0),
+)
 
 mul-k : tie.Need-mul-k Inv-loop μ-loop
 mul-k c = omega (arith, c .loop-test .taken, c .before .loop .inv .1)
@@ -63,29 +67,34 @@ wide-requires-3 : tie.Need-wide-requires-3 Inv-loop μ-loop
 wide-requires-3 c κs = tt
 
 weld-cap-requires : tie.Need-weld-cap-requires Inv-loop μ-loop
-weld-cap-requires c κs = (c .before .before .before .before .before .before .before .before .before .before .loop .inv .2 .ready, c .before .before .before .before .before
-    .before .before .before .before .before .before .before .before .before .before .before .pre .1)
+weld-cap-requires c κs = (
+  c .before .before .before .before .before .before .before .before .before .before .loop .inv .2 .ready,
+  c .before .before .before .before .before .before .before .before .before .before .before .before .before .before .before .before .before .before .pre .1,
+)
 
 add-t : tie.Need-add-t Inv-loop μ-loop
-add-t c = omega (arith, c .before .before .before .before .before .before .before .before .before .before .before .before .before .before .before .before .loop-test .taken, c
-    .before .before .before .before .before .before .before .before .before .before .before .before .before .before .before .before .before .loop .inv .1, c .before .before
-    .before .before .before .before .before .before .before .before .before .before .before .before .before .before .before .before .before .before .before .before .before .good)
+add-t c = omega (
+  arith,
+  c .before .before .before .before .before .before .before .before .before .before .before .before .before .before .before .before .loop-test .taken,
+  c .before .before .before .before .before .before .before .before .before .before .before .before .before .before .before .before .before .loop .inv .1,
+  c .before .before .before .before .before .before .before .before .before .before .before .before .before .before .before .before .before .before .before .before .before .before .before .before .before .good,
+)
 
 loop-less : tie.Need-loop-less Inv-loop μ-loop
 loop-less c = omega (arith, c .before .before .before .before .before .before .before .before .before .before .before .before .before .before .before .before .loop-test .taken)
 
 loop-again : tie.Need-loop-again Inv-loop μ-loop
-loop-again c = let x = c .before .before .before .before .before .before .before .before .before .before .before .before .before .before .before .before .before .before .before
-    .before .before .before .before in
+loop-again c = let x = c .before .before .before .before .before .before .before .before .before .before .before .before .before .before .before .before .before .before .before .before .before .before .before .before .before in
     let l = c .before .before .before .before .before .before .before .before .before .before .before .before .before .before .before .before .before .loop in (
       omega (arith, c .before .before .before .before .before .before .before .before .before .before .before .before .before .before .before .before .loop-test .taken),
       l .inv .1,
       caps-more (x .args .both) (λ (i : ℕ). surfaceAt (now (x .args .corners)) (x .args .s) i (x .args .near)) (λ (i : ℕ). surfaceAt (now (x .args .corners)) (x .args .s) i (x
-      .args .far)) (l .t) (now (x .args .caps)) _ _ _ _ _ _ (omega (arith, c .before .before .before .before .before .before .before .before .before .before .before .before
-      .before .before .before .before .loop-test .taken, l .inv .1))
-          (c .before .before .before .before .before .before .before .before .before .before .before .before .before .before .wide .ensures) (c .before .before .before .before
-          .before .before .before .before .before .before .before .before .wide2 .ensures) (c .before .before .before .before .before .before .before .before .before .before
-          .wide3 .ensures) (l .inv .2) (c .before .before .before .before .before .before .weld-cap .ensures),
+          .args .far)) (l .t) (now (x .args .caps)) _ _ _ _ _ _ (omega (
+            arith,
+            c .before .before .before .before .before .before .before .before .before .before .before .before .before .before .before .before .loop-test .taken,
+            l .inv .1,
+          ))
+          (c .before .before .before .before .before .before .before .before .before .before .before .before .before .before .wide .ensures) (c .before .before .before .before .before .before .before .before .before .before .before .before .wide2 .ensures) (c .before .before .before .before .before .before .before .before .before .before .wide3 .ensures) (l .inv .2) (c .before .before .before .before .before .before .weld-cap .ensures),
     )
 
 same-length : tie.Need-same-length Inv-loop μ-loop
@@ -98,7 +107,7 @@ same-length-3 : tie.Need-same-length-3 Inv-loop μ-loop
 same-length-3 c = c .before .loop .inv .2 .wlong
 
 returns : tie.Need-returns Inv-loop μ-loop
-returns c = let x = c .before .before .before .before .before .before .before in
+returns c = let x = c .before .before .before .before .before .before .before .before .before in
     let l = c .before .loop in
     caps-all (x .args .both) (λ (i : ℕ). surfaceAt (now (x .args .corners)) (x .args .s) i (x .args .near)) (λ (i : ℕ). surfaceAt (now (x .args .corners)) (x .args .s) i (x
     .args .far)) (l .t) (now (x .args .caps)) _ _ (omega (arith, l .inv .0, l .inv .1)) (omega (arith, c .loop-test .left, l .inv .1)) (l .inv .2)

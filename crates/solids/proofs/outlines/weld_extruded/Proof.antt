@@ -16,20 +16,33 @@ mul-m : tie.Need-mul-m
 mul-m c = omega (arith, ccw-few _ _ (c .ccw-polygon .ensures .0) (c .before .before .before .before .before .before .pre .1 .1))
 
 array-share-prefix-corners : tie.Need-array-share-prefix-corners
-array-share-prefix-corners c = omega (arith, ccw-few _ _ (c .before .before .before .ccw-polygon .ensures .0) (c .before .before .before .before .before .before .before .before
-    .before .pre .1 .1), c .before .before .before .ccw-polygon .ensures .0, padded-long _ _ _ (c .before .before .before .ccw-polygon .ensures .1))
+array-share-prefix-corners c = omega (
+  arith,
+  ccw-few _ _ (c .before .before .before .ccw-polygon .ensures .0) (c .before .before .before .before .before .before .before .before
+      .before .pre .1 .1),
+  c .before .before .before .ccw-polygon .ensures .0,
+  padded-long _ _ _ (c .before .before .before .ccw-polygon .ensures .1),
+)
 
 slice-aggregate-weld-extruded-from : tie.Need-slice-aggregate-weld-extruded-from
-slice-aggregate-weld-extruded-from c = let o = c .before .before .before .before .ccw-polygon in sym (length-take-le (2 * o .result) (o .last .1 .0) (omega (arith, o .ensures
-    .0, padded-long _ _ _ (o .ensures .1))))
+slice-aggregate-weld-extruded-from c = let o = c .before .before .before .before .ccw-polygon in sym (length-take-le (2 * o .result) (o .last .1 .0) (omega (
+  arith,
+  o .ensures
+      .0,
+  padded-long _ _ _ (o .ensures .1),
+)))
 
 weld-extruded-from-requires : tie.Need-weld-extruded-from-requires
 weld-extruded-from-requires c κs = let o = c .before .before .before .before .ccw-polygon in (
   c .before .before .before .before .before .before .before .before .before .before .pre .0,
   (
     c .before .before .before .before .before .before .before .before .before .before .pre .1 .0,
-    omega (arith, ccw-few _ _ (o .ensures .0) (c .before .before .before .before .before .before .before .before .before .before .pre .1 .1), length-take-le (2 * o .result) (o
-    .last .1 .0) (omega (arith, o .ensures .0, padded-long _ _ _ (o .ensures .1)))),
+    omega (
+      arith,
+      ccw-few _ _ (o .ensures .0) (c .before .before .before .before .before .before .before .before .before .before .pre .1 .1),
+      length-take-le (2 * o .result) (o
+          .last .1 .0) (omega (arith, o .ensures .0, padded-long _ _ _ (o .ensures .1))),
+    ),
   ),
 )
 

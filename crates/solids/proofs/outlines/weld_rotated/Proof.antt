@@ -25,20 +25,32 @@ mul-m : tie.Need-mul-m
 mul-m c = omega (arith, prepared-few _ _ _ (c .prepare .ensures .0) (c .before .before .before .before .before .before .before .pre .1 .1))
 
 array-share-prefix-corners : tie.Need-array-share-prefix-corners
-array-share-prefix-corners c = omega (arith, prepared-few _ _ _ (c .before .before .before .prepare .ensures .0) (c .before .before .before .before .before .before .before
-    .before .before .before .pre .1 .1), c .before .before .before .prepare .ensures .0, padded-long _ _ _ (c .before .before .before .prepare .ensures .1))
+array-share-prefix-corners c = omega (
+  arith,
+  prepared-few _ _ _ (c .before .before .before .prepare .ensures .0) (c .before .before .before .before .before .before .before
+      .before .before .before .pre .1 .1),
+  c .before .before .before .prepare .ensures .0,
+  padded-long _ _ _ (c .before .before .before .prepare .ensures .1),
+)
 
 slice-aggregate-weld-rotated-from : tie.Need-slice-aggregate-weld-rotated-from
-slice-aggregate-weld-rotated-from c = let o = c .before .before .before .before .prepare in sym (length-take-le (2 * o .result) (o .last .1 .1 .0) (omega (arith, o .ensures .0,
-    padded-long _ _ _ (o .ensures .1))))
+slice-aggregate-weld-rotated-from c = let o = c .before .before .before .before .prepare in sym (length-take-le (2 * o .result) (o .last .1 .1 .0) (omega (
+  arith,
+  o .ensures .0,
+  padded-long _ _ _ (o .ensures .1),
+)))
 
 weld-rotated-from-requires : tie.Need-weld-rotated-from-requires
 weld-rotated-from-requires c κs = let o = c .before .before .before .before .prepare in (
   c .before .before .before .before .before .before .before .before .before .before .before .pre .0,
   (
     c .before .before .before .before .before .before .before .before .before .before .before .pre .1 .0,
-    omega (arith, prepared-few _ _ _ (o .ensures .0) (c .before .before .before .before .before .before .before .before .before .before .before .pre .1 .1), length-take-le (2 *
-    o .result) (o .last .1 .1 .0) (omega (arith, o .ensures .0, padded-long _ _ _ (o .ensures .1)))),
+    omega (
+      arith,
+      prepared-few _ _ _ (o .ensures .0) (c .before .before .before .before .before .before .before .before .before .before .before .pre .1 .1),
+      length-take-le (2 *
+          o .result) (o .last .1 .1 .0) (omega (arith, o .ensures .0, padded-long _ _ _ (o .ensures .1))),
+    ),
   ),
 )
 

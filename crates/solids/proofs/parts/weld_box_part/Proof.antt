@@ -20,8 +20,11 @@ point-at-requires-2 : tie.Need-point-at-requires-2
 point-at-requires-2 c κs = omega (arith, c .before .before .before .before .before .pre .1 .1)
 
 weld-box-shape-requires : tie.Need-weld-box-shape-requires
-weld-box-shape-requires c κs = (c .before .before .before .before .before .before .before .before .before .pre .0, c .before .before .before .before .before .before .before
-    .before .before .pre .1 .0)
+weld-box-shape-requires c κs = (
+  c .before .before .before .before .before .before .before .before .before .pre .0,
+  c .before .before .before .before .before .before .before
+      .before .before .pre .1 .0,
+)
 
 new-part-requires : tie.Need-new-part-requires
 new-part-requires c κs = tt

@@ -7,8 +7,14 @@ wire-point-requires : tie.Need-wire-point-requires
 wire-point-requires c κs = c .before .before .before .before .pre .1 .2
 
 weld-sphere-requires : tie.Need-weld-sphere-requires
-weld-sphere-requires c κs = (c .before .before .before .before .before .before .before .before .pre .0, (c .before .before .before .before .before .before .before .before .pre
-    .1 .0, c .before .before .before .before .before .before .before .before .pre .1 .1))
+weld-sphere-requires c κs = (
+  c .before .before .before .before .before .before .before .before .pre .0,
+  (
+    c .before .before .before .before .before .before .before .before .pre
+        .1 .0,
+    c .before .before .before .before .before .before .before .before .pre .1 .1,
+  ),
+)
 
 new-part-requires : tie.Need-new-part-requires
 new-part-requires c κs = tt

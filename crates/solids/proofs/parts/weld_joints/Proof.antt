@@ -19,8 +19,12 @@ abbrev μ-loop : tie.MeasureT-loop
 μ-loop vertices₀ triangles₀ work₀ list cylindrical r segments rings st₀ n i₀ vertices triangles work st i = n - i
 
 loop-holds : tie.Need-loop-holds Inv-loop μ-loop
-loop-holds c = let x = c .before .before .before .before in (zero-le, refl, loop-none (jointAt (x .args .cylindrical) (now (x .args .list)) (x .args .segments) (x .args .r) (x
-    .args .rings)) _ (x .pre .0))
+loop-holds c = let x = c .before .before .before .before in (
+  zero-le,
+  refl,
+  loop-none (jointAt (x .args .cylindrical) (now (x .args .list)) (x .args .segments) (x .args .r) (x
+      .args .rings)) _ (x .pre .0),
+)
 
 add-loop : tie.Need-add-loop Inv-loop μ-loop
 add-loop c = omega (arith, c .loop .inv .0, c .loop .inv .1)
@@ -29,13 +33,28 @@ add-weld-joint-part : tie.Need-add-weld-joint-part Inv-loop μ-loop
 add-weld-joint-part c = omega (arith, c .before .before .before .loop-test .taken, c .before .before .before .before .loop .inv .1)
 
 weld-joint-part-requires : tie.Need-weld-joint-part-requires Inv-loop μ-loop
-weld-joint-part-requires c κs = (c .before .before .before .before .loop .inv .2 .ready, (c .before .before .before .before .before .before .before .before .before .pre .1 .0, c
-    .before .before .before .before .before .before .before .before .before .pre .1 .1, omega (arith, c .before .before .before .loop-test .taken, c .before .before .before
-    .before .loop .inv .1)))
+weld-joint-part-requires c κs = (
+  c .before .before .before .before .loop .inv .2 .ready,
+  (
+    c .before .before .before .before .before .before .before .before .before .pre .1 .0,
+    c
+        .before .before .before .before .before .before .before .before .before .pre .1 .1,
+    omega (
+      arith,
+      c .before .before .before .loop-test .taken,
+      c .before .before .before
+          .before .loop .inv .1,
+    ),
+  ),
+)
 
 add-i : tie.Need-add-i Inv-loop μ-loop
-add-i c = omega (arith, c .before .before .before .before .before .before .before .before .before .before .loop-test .taken, c .before .before .before .before .before .before
-    .before .before .before .before .before .loop .inv .1)
+add-i c = omega (
+  arith,
+  c .before .before .before .before .before .before .before .before .before .before .loop-test .taken,
+  c .before .before .before .before .before .before
+      .before .before .before .before .before .loop .inv .1,
+)
 
 loop-less : tie.Need-loop-less Inv-loop μ-loop
 loop-less c = omega (arith, c .before .before .before .before .before .before .before .before .before .before .loop-test .taken)
@@ -46,7 +65,7 @@ loop-again c = let x = c .before .before .before .before .before .before .before
       omega (arith, c .before .before .before .before .before .before .before .before .before .before .loop-test .taken),
       l .inv .1,
       loop-more (jointAt (x .args .cylindrical) (now (x .args .list)) (x .args .segments) (x .args .r) (x .args .rings)) (l .i) _ _ _ (l .inv .2) (c .before .before .before
-      .before .before .before .weld-joint-part .ensures),
+          .before .before .before .weld-joint-part .ensures),
     )
 
 same-length : tie.Need-same-length Inv-loop μ-loop

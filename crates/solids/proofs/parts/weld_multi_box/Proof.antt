@@ -22,21 +22,34 @@ loop-holds : tie.Need-loop-holds Inv-loop μ-loop
 loop-holds c = let x = c .before .before .before .before in (zero-le, refl, loop-none (boxAt (x .args .cylindrical) (now (x .args .list)) (x .args .segments)) _ (x .pre .0))
 
 weld-box-part-requires : tie.Need-weld-box-part-requires Inv-loop μ-loop
-weld-box-part-requires c κs = (c .before .before .before .before .loop .inv .2 .ready, (c .before .before .before .before .before .before .before .before .before .pre .1, omega
-    (arith, c .before .before .before .loop-test .taken, c .before .before .before .before .loop .inv .1)))
+weld-box-part-requires c κs = (
+  c .before .before .before .before .loop .inv .2 .ready,
+  (
+    c .before .before .before .before .before .before .before .before .before .pre .1,
+    omega
+        (arith, c .before .before .before .loop-test .taken, c .before .before .before .before .loop .inv .1),
+  ),
+)
 
 add-i : tie.Need-add-i Inv-loop μ-loop
-add-i c = omega (arith, c .before .before .before .before .before .before .before .before .before .before .loop-test .taken, c .before .before .before .before .before .before
-    .before .before .before .before .before .loop .inv .1)
+add-i c = omega (
+  arith,
+  c .before .before .before .before .before .before .before .before .before .before .loop-test .taken,
+  c .before .before .before .before .before .before
+      .before .before .before .before .before .loop .inv .1,
+)
 
 loop-less : tie.Need-loop-less Inv-loop μ-loop
 loop-less c = omega (arith, c .before .before .before .before .before .before .before .before .before .before .loop-test .taken)
 
 loop-again : tie.Need-loop-again Inv-loop μ-loop
 loop-again c = let x = c .before .before .before .before .before .before .before .before .before .before .before .before .before .before .before .before in
-    let l = c .before .before .before .before .before .before .before .before .before .before .before .loop in
-    (omega (arith, c .before .before .before .before .before .before .before .before .before .before .loop-test .taken), l .inv .1, loop-more (boxAt (x .args .cylindrical) (now
-    (x .args .list)) (x .args .segments)) (l .i) _ _ _ (l .inv .2) (c .before .before .before .before .before .before .weld-box-part .ensures))
+    let l = c .before .before .before .before .before .before .before .before .before .before .before .loop in (
+      omega (arith, c .before .before .before .before .before .before .before .before .before .before .loop-test .taken),
+      l .inv .1,
+      loop-more (boxAt (x .args .cylindrical) (now
+          (x .args .list)) (x .args .segments)) (l .i) _ _ _ (l .inv .2) (c .before .before .before .before .before .before .weld-box-part .ensures),
+    )
 
 same-length : tie.Need-same-length Inv-loop μ-loop
 same-length c = c .before .loop .inv .2 .vlong

@@ -15,8 +15,11 @@ wire-point-requires-2 : tie.Need-wire-point-requires-2
 wire-point-requires-2 c κs = omega (arith, c .before .before .before .before .before .pre .1 .1)
 
 weld-cylinder-requires : tie.Need-weld-cylinder-requires
-weld-cylinder-requires c κs = (c .before .before .before .before .before .before .before .before .before .pre .0, c .before .before .before .before .before .before .before
-    .before .before .pre .1 .0)
+weld-cylinder-requires c κs = (
+  c .before .before .before .before .before .before .before .before .before .pre .0,
+  c .before .before .before .before .before .before .before
+      .before .before .pre .1 .0,
+)
 
 new-part-requires : tie.Need-new-part-requires
 new-part-requires c κs = tt

@@ -25,12 +25,22 @@ add-loop : tie.Need-add-loop Inv-loop μ-loop
 add-loop c = omega (arith, c .loop .inv .0, c .loop .inv .1)
 
 weld-tube-part-requires : tie.Need-weld-tube-part-requires Inv-loop μ-loop
-weld-tube-part-requires c κs = (c .before .before .before .before .loop .inv .2 .ready, (c .before .before .before .before .before .before .before .before .before .pre .1, omega
-    (arith, c .before .before .before .loop-test .taken, c .before .before .before .before .loop .inv .1)))
+weld-tube-part-requires c κs = (
+  c .before .before .before .before .loop .inv .2 .ready,
+  (
+    c .before .before .before .before .before .before .before .before .before .pre .1,
+    omega
+        (arith, c .before .before .before .loop-test .taken, c .before .before .before .before .loop .inv .1),
+  ),
+)
 
 add-i : tie.Need-add-i Inv-loop μ-loop
-add-i c = omega (arith, c .before .before .before .before .before .before .before .before .before .before .loop-test .taken, c .before .before .before .before .before .before
-    .before .before .before .before .before .loop .inv .1)
+add-i c = omega (
+  arith,
+  c .before .before .before .before .before .before .before .before .before .before .loop-test .taken,
+  c .before .before .before .before .before .before
+      .before .before .before .before .before .loop .inv .1,
+)
 
 loop-less : tie.Need-loop-less Inv-loop μ-loop
 loop-less c = omega (arith, c .before .before .before .before .before .before .before .before .before .before .loop-test .taken)
@@ -41,7 +51,7 @@ loop-again c = let x = c .before .before .before .before .before .before .before
       omega (arith, c .before .before .before .before .before .before .before .before .before .before .loop-test .taken),
       l .inv .1,
       loop-more (tubeAt (x .args .cylindrical) (now (x .args .list)) (x .args .segments) (x .args .r)) (l .i) _ _ _ (l .inv .2) (c .before .before .before .before .before
-      .before .weld-tube-part .ensures),
+          .before .weld-tube-part .ensures),
     )
 
 same-length : tie.Need-same-length Inv-loop μ-loop

@@ -9,8 +9,11 @@ weld-tubes-requires : tie.Need-weld-tubes-requires
 weld-tubes-requires c κs = (c .before .before .before .before .before .before .before .before .pre .0, c .before .before .before .before .before .before .before .before .pre .1 .0)
 
 weld-joints-requires : tie.Need-weld-joints-requires
-weld-joints-requires c κs = (c .before .before .before .before .before .before .before .before .before .weld-tubes .ensures .ready, c .before .before .before .before .before
-    .before .before .before .before .before .before .before .before .before .before .before .before .before .pre .1)
+weld-joints-requires c κs = (
+  c .before .before .before .before .before .before .before .before .before .weld-tubes .ensures .ready,
+  c .before .before .before .before .before
+      .before .before .before .before .before .before .before .before .before .before .before .before .before .pre .1,
+)
 
 same-length : tie.Need-same-length
 same-length c = c .before .before .before .before .before .before .weld-joints .ensures .vlong ∙ c .before .before .before .before .before .before .before .before .before

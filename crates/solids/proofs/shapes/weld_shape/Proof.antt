@@ -10,8 +10,11 @@ enum-known-shape : tie.Need-enum-known-shape
 enum-known-shape c = search needs
 
 weld-box-shape-requires : tie.Need-weld-box-shape-requires
-weld-box-shape-requires c κs = (c .before .before .before .before .before .before .before .before .before .before .pre .0, c .before .before .before .before .before .before
-    .before .before .before .before .pre .1 .0 .segments)
+weld-box-shape-requires c κs = (
+  c .before .before .before .before .before .before .before .before .before .before .pre .0,
+  c .before .before .before .before .before .before
+      .before .before .before .before .pre .1 .0 .segments,
+)
 
 new-part-requires : tie.Need-new-part-requires
 new-part-requires c κs = tt
@@ -20,15 +23,24 @@ enum-told : tie.Need-enum-told
 enum-told c = search needs
 
 weld-multi-box-requires : tie.Need-weld-multi-box-requires
-weld-multi-box-requires c κs = (c .before .before .before .before .before .before .before .before .before .pre .0, c .before .before .before .before .before .before .before
-    .before .before .pre .1 .0 .segments)
+weld-multi-box-requires c κs = (
+  c .before .before .before .before .before .before .before .before .before .pre .0,
+  c .before .before .before .before .before .before .before
+      .before .before .pre .1 .0 .segments,
+)
 
 enum-known-shape-2 : tie.Need-enum-known-shape-2
 enum-known-shape-2 c = search needs
 
 weld-sphere-at-requires : tie.Need-weld-sphere-at-requires
-weld-sphere-at-requires c κs = (c .before .before .before .before .before .before .before .before .before .before .pre .0, (c .before .before .before .before .before .before
-    .before .before .before .before .pre .1 .0 .segments, c .before .before .before .before .before .before .before .before .before .before .pre .1 .0 .rings))
+weld-sphere-at-requires c κs = (
+  c .before .before .before .before .before .before .before .before .before .before .pre .0,
+  (
+    c .before .before .before .before .before .before
+        .before .before .before .before .pre .1 .0 .segments,
+    c .before .before .before .before .before .before .before .before .before .before .pre .1 .0 .rings,
+  ),
+)
 
 new-part-requires-2 : tie.Need-new-part-requires-2
 new-part-requires-2 c κs = tt
@@ -37,8 +49,14 @@ enum-known-shape-3 : tie.Need-enum-known-shape-3
 enum-known-shape-3 c = search needs
 
 weld-spherical-shell-requires : tie.Need-weld-spherical-shell-requires
-weld-spherical-shell-requires c κs = (c .before .before .before .before .before .before .before .before .before .before .pre .0, (c .before .before .before .before .before
-    .before .before .before .before .before .pre .1 .0 .segments, c .before .before .before .before .before .before .before .before .before .before .pre .1 .0 .rings))
+weld-spherical-shell-requires c κs = (
+  c .before .before .before .before .before .before .before .before .before .before .pre .0,
+  (
+    c .before .before .before .before .before
+        .before .before .before .before .before .pre .1 .0 .segments,
+    c .before .before .before .before .before .before .before .before .before .before .pre .1 .0 .rings,
+  ),
+)
 
 new-part-requires-3 : tie.Need-new-part-requires-3
 new-part-requires-3 c κs = tt
@@ -47,8 +65,11 @@ enum-known-shape-4 : tie.Need-enum-known-shape-4
 enum-known-shape-4 c = search needs
 
 weld-cylinder-at-requires : tie.Need-weld-cylinder-at-requires
-weld-cylinder-at-requires c κs = (c .before .before .before .before .before .before .before .before .before .before .pre .0, c .before .before .before .before .before .before
-    .before .before .before .before .pre .1 .0 .segments)
+weld-cylinder-at-requires c κs = (
+  c .before .before .before .before .before .before .before .before .before .before .pre .0,
+  c .before .before .before .before .before .before
+      .before .before .before .before .pre .1 .0 .segments,
+)
 
 new-part-requires-4 : tie.Need-new-part-requires-4
 new-part-requires-4 c κs = tt
@@ -57,8 +78,11 @@ enum-known-shape-5 : tie.Need-enum-known-shape-5
 enum-known-shape-5 c = search needs
 
 weld-cylindrical-shell-requires : tie.Need-weld-cylindrical-shell-requires
-weld-cylindrical-shell-requires c κs = (c .before .before .before .before .before .before .before .before .before .before .pre .0, c .before .before .before .before .before
-    .before .before .before .before .before .pre .1 .0 .segments)
+weld-cylindrical-shell-requires c κs = (
+  c .before .before .before .before .before .before .before .before .before .before .pre .0,
+  c .before .before .before .before .before
+      .before .before .before .before .before .pre .1 .0 .segments,
+)
 
 new-part-requires-5 : tie.Need-new-part-requires-5
 new-part-requires-5 c κs = tt
@@ -67,8 +91,11 @@ enum-known-shape-6 : tie.Need-enum-known-shape-6
 enum-known-shape-6 c = search needs
 
 weld-polygon-requires : tie.Need-weld-polygon-requires
-weld-polygon-requires c κs = (c .before .before .before .before .before .before .before .before .before .before .pre .0, listed-as _ _ _ (c .before .before .before .before
-    .shape6 .given .1) (c .before .before .before .before .before .before .before .before .before .before .pre .1 .1))
+weld-polygon-requires c κs = (
+  c .before .before .before .before .before .before .before .before .before .before .pre .0,
+  listed-as _ _ _ (c .before .before .before .before
+      .shape6 .given .1) (c .before .before .before .before .before .before .before .before .before .before .pre .1 .1),
+)
 
 new-part-requires-6 : tie.Need-new-part-requires-6
 new-part-requires-6 c κs = tt
@@ -77,8 +104,11 @@ enum-known-shape-7 : tie.Need-enum-known-shape-7
 enum-known-shape-7 c = search needs
 
 weld-lin-poly-requires : tie.Need-weld-lin-poly-requires
-weld-lin-poly-requires c κs = (c .before .before .before .before .before .before .before .before .before .before .pre .0, listed-as _ _ _ (c .before .before .before .before
-    .shape7 .given .1) (c .before .before .before .before .before .before .before .before .before .before .pre .1 .1))
+weld-lin-poly-requires c κs = (
+  c .before .before .before .before .before .before .before .before .before .before .pre .0,
+  listed-as _ _ _ (c .before .before .before .before
+      .shape7 .given .1) (c .before .before .before .before .before .before .before .before .before .before .pre .1 .1),
+)
 
 new-part-requires-7 : tie.Need-new-part-requires-7
 new-part-requires-7 c κs = tt
@@ -87,9 +117,15 @@ enum-known-shape-8 : tie.Need-enum-known-shape-8
 enum-known-shape-8 c = search needs
 
 weld-rot-poly-requires : tie.Need-weld-rot-poly-requires
-weld-rot-poly-requires c κs = (c .before .before .before .before .before .before .before .before .before .before .pre .0, (c .before .before .before .before .before .before
-    .before .before .before .before .pre .1 .0 .segments, listed-as _ _ _ (c .before .before .before .before .shape8 .given .1) (c .before .before .before .before .before
-    .before .before .before .before .before .pre .1 .1)))
+weld-rot-poly-requires c κs = (
+  c .before .before .before .before .before .before .before .before .before .before .pre .0,
+  (
+    c .before .before .before .before .before .before
+        .before .before .before .before .pre .1 .0 .segments,
+    listed-as _ _ _ (c .before .before .before .before .shape8 .given .1) (c .before .before .before .before .before
+        .before .before .before .before .before .pre .1 .1),
+  ),
+)
 
 new-part-requires-8 : tie.Need-new-part-requires-8
 new-part-requires-8 c κs = tt
@@ -98,8 +134,14 @@ enum-known-shape-9 : tie.Need-enum-known-shape-9
 enum-known-shape-9 c = search needs
 
 weld-wire-requires : tie.Need-weld-wire-requires
-weld-wire-requires c κs = (c .before .before .before .before .before .before .before .before .before .before .pre .0, (c .before .before .before .before .before .before .before
-    .before .before .before .pre .1 .0 .segments, c .before .before .before .before .before .before .before .before .before .before .pre .1 .0 .rings))
+weld-wire-requires c κs = (
+  c .before .before .before .before .before .before .before .before .before .before .pre .0,
+  (
+    c .before .before .before .before .before .before .before
+        .before .before .before .pre .1 .0 .segments,
+    c .before .before .before .before .before .before .before .before .before .before .pre .1 .0 .rings,
+  ),
+)
 
 same-length : tie.Need-same-length
 same-length c = c .before .before .before .before .before .before .before .weld-box-shape .ensures .vlong

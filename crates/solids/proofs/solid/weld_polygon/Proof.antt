@@ -8,8 +8,14 @@ direction-requires : tie.Need-direction-requires
 direction-requires c κs = tt
 
 weld-extruded-requires : tie.Need-weld-extruded-requires
-weld-extruded-requires c κs = (c .before .before .before .before .before .before .before .before .pre .0, (omega (arith, c .before .before .before .direction .ensures .1), c
-    .before .before .before .before .before .before .before .before .pre .1))
+weld-extruded-requires c κs = (
+  c .before .before .before .before .before .before .before .before .pre .0,
+  (
+    omega (arith, c .before .before .before .direction .ensures .1),
+    c
+        .before .before .before .before .before .before .before .before .pre .1,
+  ),
+)
 
 same-length : tie.Need-same-length
 same-length c = c .before .before .before .before .before .before .weld-extruded .ensures .vlong

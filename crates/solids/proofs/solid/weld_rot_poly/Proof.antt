@@ -5,9 +5,21 @@ use Rattle.solids.proofs.solid.weld_rot_poly.Statement.{statement}
 use Rattle.solids.proofs.solid.weld_rot_poly.Tie as tie
 
 weld-rotated-requires : tie.Need-weld-rotated-requires
-weld-rotated-requires c κs = (c .before .before .before .before .before .before .before .before .before .before .pre .0, (c .before .before .before .before .before .before
-    .before .before .before .before .pre .1 .0, c .before .before .before .before .before .before .before .before .before .before .pre .1 .1, omega (arith, c .before .before
-    .before .if3 .taken, c .before .before .before .before .if2 .taken, c .before .before .before .before .before .if1 .taken)))
+weld-rotated-requires c κs = (
+  c .before .before .before .before .before .before .before .before .before .before .pre .0,
+  (
+    c .before .before .before .before .before .before
+        .before .before .before .before .pre .1 .0,
+    c .before .before .before .before .before .before .before .before .before .before .pre .1 .1,
+    omega (
+      arith,
+      c .before .before
+          .before .if3 .taken,
+      c .before .before .before .before .if2 .taken,
+      c .before .before .before .before .before .if1 .taken,
+    ),
+  ),
+)
 
 same-length : tie.Need-same-length
 same-length c = c .before .before .before .before .before .before .weld-rotated .ensures .vlong
