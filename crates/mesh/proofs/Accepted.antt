@@ -14,8 +14,9 @@ use Rattle.trimesh.specs.Mesh.{append}
 use Rattle.refusal.specs.declared.Refusal.{Refusal}
 use Rattle.refusal.specs.declared.Refusal.the-variants.{Accepted, NotFinite, AngleTooLarge, BadList, PointNotFinite, NoRoom, BadMesh}
 use Rattle.mesh.specs.State.{State, meshOf, wholePlaces, every, badMesh, notFinite, checkOf, isAccepted, Sound}
+use Rattle.mesh.specs.Affine.{FiniteVertices}
 use Rattle.mesh.specs.Edits.{noRoom, appendRefusal, transformed, transformRefusal}
-use Rattle.mesh.proofs.Sound.{sound, places-three, places-limit, neither}
+use Rattle.mesh.proofs.Sound.{sound, finite-vertices, places-three, places-limit, neither}
 use Rattle.mesh.proofs.Stored.{appended-vertices, appended-triangles}
 
 -- the first test of a call did not refuse
@@ -29,23 +30,41 @@ last false true c e = absurd (false≢true e)
 last false false true e = absurd (false≢true e)
 last false false false e = refl
 
+third : (a b c : Bool) (q : Refusal) → isAccepted (cond a BadMesh (cond b BadList (cond c NotFinite q))) ≡ true → c ≡ false
+third true b c q e = absurd (false≢true e)
+third false true c q e = absurd (false≢true e)
+third false false true q e = absurd (false≢true e)
+third false false false q e = refl
+
 module _ (s : State) where
   pub check-sound : (r : Refusal) → r ≡ checkOf s → isAccepted r ≡ true → Sound s
   unfolding checkOf
   check-sound r e h = sound s (first (badMesh s) (cond (notFinite s) NotFinite Accepted) (sym (ap {B = Bool} isAccepted e) ∙ h))
 
-  pub transform-sound : (ops : List TransformOp) (count : ℕ) (degrees : Bool) (r : Refusal) → r ≡ transformRefusal ops count degrees s → isAccepted r ≡ true → Sound s
-  unfolding transformRefusal
-  transform-sound ops count degrees r e h =
-      sound s (
-      first (badMesh s)
-      (cond (not (opCountWithin count)) BadList
-      (cond (notFinite s || not (opsFinite (take count ops))) NotFinite
-      (cond (not (opsAnglesWithin degrees (take count ops))) AngleTooLarge
+  -- what a transform tests after 8, 4 and 1
+  abbrev after : List TransformOp → ℕ → Bool → Refusal
+  after ops count degrees =
+      cond (not (opsAnglesWithin degrees (take count ops))) AngleTooLarge
       (cond (eqb count 0) Accepted
-      (cond (every vFinite (transformed ops count degrees (meshOf s) .vertices)) Accepted PointNotFinite)))))
-      (sym (ap {B = Bool} isAccepted e) ∙ h)
-      )
+      (cond (every vFinite (transformed ops count degrees (meshOf s) .vertices)) Accepted PointNotFinite))
+
+  module _ (ops : List TransformOp) (count : ℕ) (degrees : Bool) (r : Refusal) (e : r ≡ transformRefusal ops count degrees s) (h : isAccepted r ≡ true) where
+    abbrev bad-op : Bool
+    bad-op = not (opsFinite (take count ops))
+
+    transform-good : badMesh s ≡ false
+    unfolding transformRefusal
+    transform-good =
+        first (badMesh s) (cond (not (opCountWithin count)) BadList (cond (notFinite s || bad-op) NotFinite (after ops count degrees))) (sym (ap {B = Bool} isAccepted e) ∙ h)
+
+    pub transform-sound : Sound s
+    transform-sound = sound s transform-good
+
+    pub transform-finite : FiniteVertices (s .vertices) (s .mesh .vertices)
+    unfolding transformRefusal
+    transform-finite =
+        let n = third (badMesh s) (not (opCountWithin count)) (notFinite s || bad-op) (after ops count degrees) (sym (ap {B = Bool} isAccepted e) ∙ h) in
+        finite-vertices s transform-good (neither (notFinite s) bad-op n .0)
 
 -- two meshes of which the second can be appended to the first
 pub record Appends (s o : State) : Type 0 where

@@ -8,3 +8,4 @@ pub mod Outcomes
 pub mod Accepted
 pub mod Terms
 pub mod Readings
+pub mod AffineLaws

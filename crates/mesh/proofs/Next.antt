@@ -80,15 +80,14 @@ module _ {A : Type 0} (k : A → Bool) where
   unfolding every
   every-end l i h = ap {B = Bool} (every k) (drop-end l i h)
 
-  -- the loop goes on where the element passes, and ends where it does not
-  pub every-passed : (l : List A) (i : ℕ) (x : A) → Next l i x → k x ≡ true → every k (drop i l) ≡ every k l → every k (drop (i + 1) l) ≡ every k l
-  every-passed l i x h t e = sym (every-next l i x h ∙ ap {B = Bool} (λ (b : Bool). b && every k (drop (i + 1) l)) t) ∙ e
+  -- the loop's state after a turn, in which b says whether the element passes; ok says whether all before it did
+  pub every-turn : (l : List A) (i : ℕ) (x : A) (ok b : Bool) → Next l i x → b ≡ k x → (ok && every k (drop i l)) ≡ every k l → ((ok && b) && every k (drop (i + 1) l)) ≡ every k l
+  every-turn l i x true b h t e = ap {B = Bool} (λ (q : Bool). q && every k (drop (i + 1) l)) t ∙ sym (every-next l i x h) ∙ e
+  every-turn l i x false b h t e = e
 
-  pub every-failed : (l : List A) (i : ℕ) (x : A) → Next l i x → k x ≡ false → every k (drop i l) ≡ every k l → false ≡ every k l
-  every-failed l i x h t e = sym (every-next l i x h ∙ ap {B = Bool} (λ (b : Bool). b && every k (drop (i + 1) l)) t) ∙ e
-
-  pub every-ended : (l : List A) (i : ℕ) → length l ≤ i → every k (drop i l) ≡ every k l → true ≡ every k l
-  every-ended l i h e = sym (every-end l i h) ∙ e
+  pub every-done : (l : List A) (i : ℕ) (ok : Bool) → length l ≤ i → (ok && every k (drop i l)) ≡ every k l → ok ≡ every k l
+  every-done l i true h e = sym (every-end l i h) ∙ e
+  every-done l i false h e = e
 
   pub every-at : (l : List A) (n i : ℕ) (d : A) → every k (take n l) ≡ true → i < n → n ≤ length l → k (getD l i d) ≡ true
   unfolding every

@@ -6,8 +6,10 @@ use Prim.Native.Nat.{ℕ, _+_, _*_, _/_, _≤_, _<_}
 use native.Mathlib.Omega.{arith}
 use lib.ListN.{length, take, getD}
 use lib.Dec.{ltb}
+use lib.Ieee.Scale.{finite}
 use borrow.Author.Tests.{ltb-true, ltb-false, lt-ltb, le-ltb, not-false}
-use Rattle.mesh.specs.State.{State, wholePlaces, every, badMesh, Sound}
+use Rattle.mesh.specs.State.{State, wholePlaces, every, badMesh, notFinite, Sound}
+use Rattle.mesh.specs.Affine.{FiniteVertices}
 use Rattle.mesh.proofs.Next.{every-at}
 
 pub neither : (a b : Bool) → (a || b) ≡ false → (a ≡ false) × (b ≡ false)
@@ -47,6 +49,10 @@ module _ (s : State) (good : badMesh s ≡ false) where
         (places-three (s .mesh .triangles) (length (s .triangles)) triangles-fit)
         );
   }
+
+  pub finite-vertices : notFinite s ≡ false → FiniteVertices (s .vertices) (s .mesh .vertices)
+  unfolding notFinite
+  finite-vertices h = record { within = sound .vertices; finite = not-false (every finite (take (3 * s .mesh .vertices) (s .vertices))) h }
 
 -- ---- the tests in their order
 or-true : (b : Bool) → (b || true) ≡ true

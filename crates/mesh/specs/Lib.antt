@@ -2,6 +2,7 @@
 pub mod State
 pub mod Edits
 pub mod Triples
+pub mod Affine
 pub mod Measures
 pub mod StateLaws
 pub mod Lists

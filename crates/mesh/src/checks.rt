@@ -25,34 +25,32 @@ pub fn places(len: usize) -> usize
     }
 }
 
-// Whether the first count numbers are below n.
-fn all_below(numbers: &[u32], count: usize, n: usize) -> bool
+// Whether the first count numbers are below n. The loop has no early end, so that several are tested at once.
+fn all_below(numbers: &[u32], count: usize, n: u32) -> bool
     requires { ⌜ count ≤ length (now numbers) ⌝ }
     ensures { λ r. ⌜ r ≡ every (λ i. ltb i n) (take count (now (numbers .entry))) ⌝ }
 {
+    let mut ok = true;
     let mut i = 0;
     while i < count {
-        if n <= wide(numbers[i]) {
-            return false;
-        }
+        ok = ok & (numbers[i] < n);
         i += 1;
     }
-    true
+    ok
 }
 
-// Whether the first count floats are finite.
+// Whether the first count floats are finite. No early end, as above.
 pub fn all_finite(floats: &[f64], count: usize) -> bool
     requires { ⌜ count ≤ length (now floats) ⌝ }
     ensures { λ r. ⌜ r ≡ every finite (take count (now (floats .entry))) ⌝ }
 {
+    let mut ok = true;
     let mut i = 0;
     while i < count {
-        if !ieee::is_finite(floats[i]) {
-            return false;
-        }
+        ok = ok & ieee::is_finite(floats[i]);
         i += 1;
     }
-    true
+    ok
 }
 
 // 8: a count beyond its slice or above 4,294,967,295, or a number at or above the vertex count.
@@ -67,5 +65,5 @@ pub fn bad_mesh(mesh: TriMesh, vertices: &[f64], triangles: &[u32]) -> bool
     if places(triangles.len()) < k {
         return true;
     }
-    !all_below(triangles, 3 * k, n)
+    !all_below(triangles, 3 * k, n as u32)
 }

@@ -81,7 +81,7 @@ pub fn transform(
         return Edited { refusal, mesh };
     }
     let a = transform::fold(ops, op_count, degrees);
-    moves::move_all(vertices, n, a);
+    moves::move_finite(vertices, n, a);
     if math::determinant(a) < 0.0 {
         writes::turn_all(triangles, k);
         return Edited { refusal, mesh };

@@ -1,5 +1,6 @@
 // A mesh in lent slices: three floats a vertex, three numbers a triangle, and the two counts by value.
 // The calls edit it or measure it. Each checks the mesh first, and a refusal changes nothing.
+mod affine;
 mod checks;
 mod edits;
 mod measures;

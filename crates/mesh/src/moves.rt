@@ -9,6 +9,9 @@ ghost use Rattle.math.specs.Mat.{transformPoint};
 ghost use Rattle.trimesh.specs.Slices.{points, triOf};
 ghost use Rattle.mesh.specs.State.{every};
 ghost use Rattle.mesh.specs.Triples.{eachTo, putTriple, vertexAt, movedTriple};
+ghost use Rattle.mesh.specs.Affine.{FiniteVertices};
+use crate::affine;
+use crate::checks;
 use math::Mat4;
 use math::Vec3;
 
@@ -25,7 +28,7 @@ pub fn vertex(vertices: &[f64], i: usize) -> Vec3
     }
 }
 
-fn put_vertex(vertices: &mut [f64], i: usize, p: Vec3)
+pub fn put_vertex(vertices: &mut [f64], i: usize, p: Vec3)
     requires { ⌜ 3 * i + 3 ≤ length (now vertices) ⌝ }
     ensures { λ _. ⌜ now (vertices .exit) ≡ putTriple (now (vertices .entry)) i (triOf p) ⌝ }
 {
@@ -35,23 +38,22 @@ fn put_vertex(vertices: &mut [f64], i: usize, p: Vec3)
     vertices[at + 2] = p.z;
 }
 
-// Whether the first n vertices are finite after the matrix. Writes nothing.
-pub fn stay_finite(vertices: &[f64], n: usize, a: Mat4) -> bool
+// Whether the first n vertices are finite after the matrix. A point is divided by its fourth coordinate.
+fn stay_finite_divided(vertices: &[f64], n: usize, a: Mat4) -> bool
     requires { ⌜ 3 * n ≤ length (now vertices) ⌝ }
     ensures { λ r. ⌜ r ≡ every vFinite (map (transformPoint a) (points (take (3 * n) (now (vertices .entry))))) ⌝ }
 {
+    let mut ok = true;
     let mut i = 0;
     while i < n {
-        if !math::is_finite(math::transform_point(a, vertex(vertices, i))) {
-            return false;
-        }
+        ok = ok & math::is_finite(math::transform_point(a, vertex(vertices, i)));
         i += 1;
     }
-    true
+    ok
 }
 
-// Puts the first n vertices under the matrix.
-pub fn move_all(vertices: &mut [f64], n: usize, a: Mat4)
+// Puts the first n vertices under the matrix. A point is divided by its fourth coordinate.
+fn move_divided(vertices: &mut [f64], n: usize, a: Mat4)
     requires { ⌜ 3 * n ≤ length (now vertices) ⌝ }
     ensures { λ _. ⌜ now (vertices .exit) ≡ eachTo (movedTriple a) n (now (vertices .entry)) ⌝ }
 {
@@ -61,4 +63,50 @@ pub fn move_all(vertices: &mut [f64], n: usize, a: Mat4)
         put_vertex(vertices, i, p);
         i += 1;
     }
+}
+
+// Whether the first n vertices, which are finite, are so after the matrix.
+pub fn keep_finite(vertices: &[f64], n: usize, a: Mat4) -> bool
+    requires { ⌜ FiniteVertices (now vertices) n ⌝ }
+    ensures { λ r. ⌜ r ≡ every vFinite (map (transformPoint a) (points (take (3 * n) (now (vertices .entry))))) ⌝ }
+{
+    if affine::is_affine(a) {
+        return affine::stay_finite(vertices, n, a);
+    }
+    stay_finite_divided(vertices, n, a)
+}
+
+// Puts the first n vertices, which are finite, under the matrix.
+pub fn move_finite(vertices: &mut [f64], n: usize, a: Mat4)
+    requires { ⌜ FiniteVertices (now vertices) n ⌝ }
+    ensures { λ _. ⌜ now (vertices .exit) ≡ eachTo (movedTriple a) n (now (vertices .entry)) ⌝ }
+{
+    if affine::is_affine(a) {
+        affine::move_all(vertices, n, a);
+        return;
+    }
+    move_divided(vertices, n, a);
+}
+
+// Whether the first n vertices are finite after the matrix. Writes nothing.
+pub fn stay_finite(vertices: &[f64], n: usize, a: Mat4) -> bool
+    requires { ⌜ 3 * n ≤ length (now vertices) ⌝ }
+    ensures { λ r. ⌜ r ≡ every vFinite (map (transformPoint a) (points (take (3 * n) (now (vertices .entry))))) ⌝ }
+{
+    if checks::all_finite(vertices, 3 * n) {
+        return keep_finite(vertices, n, a);
+    }
+    stay_finite_divided(vertices, n, a)
+}
+
+// Puts the first n vertices under the matrix.
+pub fn move_all(vertices: &mut [f64], n: usize, a: Mat4)
+    requires { ⌜ 3 * n ≤ length (now vertices) ⌝ }
+    ensures { λ _. ⌜ now (vertices .exit) ≡ eachTo (movedTriple a) n (now (vertices .entry)) ⌝ }
+{
+    if checks::all_finite(vertices, 3 * n) {
+        move_finite(vertices, n, a);
+        return;
+    }
+    move_divided(vertices, n, a);
 }

@@ -102,7 +102,7 @@ pub fn transform_refusal(
     if op_count == 0 {
         return Refusal::Accepted;
     }
-    if !moves::stay_finite(vertices, n, transform::fold(ops, op_count, degrees)) {
+    if !moves::keep_finite(vertices, n, transform::fold(ops, op_count, degrees)) {
         return Refusal::PointNotFinite;
     }
     Refusal::Accepted

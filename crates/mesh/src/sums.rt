@@ -33,7 +33,7 @@ fn volume_term(vertices: &[f64], triangles: &[u32], i: usize) -> f64
     math::dot(a, math::cross(b, c))
 }
 
-// The area of triangle i.
+// The area of triangle i. The norm is written out: a call of norm would hand the vector over in memory.
 fn area_term(vertices: &[f64], triangles: &[u32], i: usize) -> f64
     requires { ⌜ CornersWithin (now vertices) (now triangles) i ⌝ }
     ensures { λ r. ⌜ r ≡ areaTerm (cornersAt (now (vertices .entry)) (now (triangles .entry)) i) ⌝ }
@@ -42,7 +42,7 @@ fn area_term(vertices: &[f64], triangles: &[u32], i: usize) -> f64
     let a = corner(vertices, triangles, at);
     let b = corner(vertices, triangles, at + 1);
     let c = corner(vertices, triangles, at + 2);
-    math::norm(math::cross(math::sub(b, a), math::sub(c, a))) / 2.0
+    root::sqrt(math::norm_sq(math::cross(math::sub(b, a), math::sub(c, a)))) / 2.0
 }
 
 // The sum of the volume terms of the first k triangles.

@@ -1,24 +1,22 @@
--- `mesh::checks::all_finite` meets its contract: what is left to test decides as the whole does. Assumes nothing.
+-- `mesh::checks::all_finite` meets its contract: ok and what is left to test decide as the whole does. Assumes nothing.
 use denote.Ref.{now}
-use mathlib.Core.Path.{_≡_, refl, sym, _∙_}
-use mathlib.Core.Bool.{true, false}
+use mathlib.Core.Path.{_≡_, refl}
+use mathlib.Core.Bool.{_&&_}
 use Prim.Native.Nat.{_≤_, _<_, _-_}
 use lib.ListN.{length, take, drop, getD, length-take}
-use lib.Seq.{length-take-le}
 use lib.Ieee.{nan}
 use lib.Ieee.Scale.{finite}
-use borrow.Author.Tests.{not-true, not-false}
 use Rattle.mesh.specs.State.{every}
-use Rattle.mesh.proofs.Next.{next-take, every-passed, every-failed, every-ended}
+use Rattle.mesh.proofs.Next.{next-take, every-turn, every-done}
 use native.Mathlib.Omega.{arith}
 use Rattle.mesh.proofs.checks.all_finite.Statement.{statement}
 use Rattle.mesh.proofs.checks.all_finite.Tie as tie
 
 abbrev Inv-loop : tie.InvT-loop
-Inv-loop floats count i₀ i = (i ≤ count) × (every finite (drop i (take count floats)) ≡ every finite (take count floats))
+Inv-loop floats count ok₀ i₀ ok i = (i ≤ count) × ((ok && every finite (drop i (take count floats))) ≡ every finite (take count floats))
 
 abbrev μ-loop : tie.MeasureT-loop
-μ-loop floats count i₀ i = count - i
+μ-loop floats count ok₀ i₀ ok i = count - i
 
 loop-holds : tie.Need-loop-holds Inv-loop μ-loop
 loop-holds c = (omega arith, refl)
@@ -32,14 +30,6 @@ shared-slice-read-is-finite c = omega arith
 is-finite-requires : tie.Need-is-finite-requires Inv-loop μ-loop
 is-finite-requires c κs = tt
 
-returns : tie.Need-returns Inv-loop μ-loop
-returns c =
-    let a = c .before .before .before .before .before .before .args in
-    let l = c .before .before .before .before .loop in
-    let v = now (a .floats) in
-    let h : finite (getD v (l .i) nan) ≡ false = sym (c .before .is-finite .ensures) ∙ not-true _ (c .if1 .taken) in
-    every-failed finite (take (a .count) v) (l .i) (getD v (l .i) nan) (next-take v (a .count) (l .i) nan (omega arith) (omega arith)) h (l .inv .1)
-
 add-i : tie.Need-add-i Inv-loop μ-loop
 add-i c = omega arith
 
@@ -48,18 +38,18 @@ loop-less c = omega arith
 
 loop-again : tie.Need-loop-again Inv-loop μ-loop
 loop-again c =
-    let a = c .before .before .before .before .before .before .args in
-    let l = c .before .before .before .before .loop in
+    let a = c .before .before .before .before .before .args in
+    let l = c .before .before .before .loop in
     let v = now (a .floats) in
-    let h : finite (getD v (l .i) nan) ≡ true = sym (c .before .is-finite .ensures) ∙ not-false _ (c .if1 .left) in
-    (omega arith, every-passed finite (take (a .count) v) (l .i) (getD v (l .i) nan) (next-take v (a .count) (l .i) nan (omega arith) (omega arith)) h (l .inv .1))
+    let h = next-take v (a .count) (l .i) nan (omega arith) (omega arith) in
+    (omega arith, every-turn finite (take (a .count) v) (l .i) (getD v (l .i) nan) (l .ok) (c .is-finite .result) h (c .is-finite .ensures) (l .inv .1))
 
-returns-2 : tie.Need-returns-2 Inv-loop μ-loop
-returns-2 c =
+returns : tie.Need-returns Inv-loop μ-loop
+returns c =
     let a = c .before .before .before .args in
     let l = c .before .loop in
     let v = now (a .floats) in
-    every-ended finite (take (a .count) v) (l .i) (omega (arith, length-take (a .count) v)) (l .inv .1)
+    every-done finite (take (a .count) v) (l .i) (l .ok) (omega (arith, length-take (a .count) v)) (l .inv .1)
 
 pub all-finite-spec : {M : Type 1} → statement M
 all-finite-spec =
@@ -71,8 +61,7 @@ all-finite-spec =
     mul-is-finite
     shared-slice-read-is-finite
     is-finite-requires
-    returns
     add-i
     loop-less
     loop-again
-    returns-2)
+    returns)

@@ -4,7 +4,7 @@ use mathlib.Core.Path.{_≡_, sym, ap, _∙_, subst}
 use Prim.Native.Nat.{ℕ, _*_, _≤_, _<_}
 use lib.ListN.{length}
 use Rattle.mesh.specs.State.{state, wholePlaces}
-use Rattle.mesh.proofs.Sound.{bad-vertices, bad-triangles, bad-numbers, places-three}
+use Rattle.mesh.proofs.Sound.{bad-vertices, bad-triangles, bad-numbers, places-three, places-limit}
 use borrow.Author.Needs.{needs}
 use native.Mathlib.Omega.{arith}
 use Rattle.mesh.proofs.checks.bad_mesh.Statement.{statement}
@@ -32,6 +32,12 @@ mul-all-below c =
     let h : a .mesh .triangles ≤ wholePlaces (length (now (a .triangles))) = omega arith in
     omega (arith, places-three (a .mesh .triangles) (length (now (a .triangles))) h)
 
+cast-all-below : tie.Need-cast-all-below
+cast-all-below c =
+    let a = c .before .before .before .before .before .before .args in
+    let h : a .mesh .vertices ≤ wholePlaces (length (now (a .vertices))) = omega arith in
+    omega (arith, places-limit (a .mesh .vertices) (length (now (a .vertices))) h)
+
 all-below-requires : tie.Need-all-below-requires
 all-below-requires c κs =
     let a = c .before .before .before .before .before .before .args in
@@ -52,5 +58,6 @@ bad-mesh-spec =
     places-requires-2
     returns-2
     mul-all-below
+    cast-all-below
     all-below-requires
     returns-3)

@@ -17,7 +17,7 @@ use Rattle.mesh.specs.Edits.{transformed, transformRefusal, transformOf}
 use Rattle.mesh.specs.Triples.{eachTo, movedTriple}
 use Rattle.mesh.proofs.Stored.{stored-moved, stored-mirrored}
 use Rattle.mesh.proofs.Outcomes.{gives-kept, gives-done, transform-mirrors, transform-moves}
-use Rattle.mesh.proofs.Accepted.{transform-sound}
+use Rattle.mesh.proofs.Accepted.{transform-sound, transform-finite}
 use borrow.Author.Needs.{needs}
 use Rattle.mesh.proofs.edits.transform.Statement.{statement}
 use Rattle.mesh.proofs.edits.transform.Tie as tie
@@ -68,13 +68,13 @@ returns-2 c =
 fold-requires : tie.Need-fold-requires
 fold-requires c κs = search needs
 
-move-all-requires : tie.Need-move-all-requires
-move-all-requires c κs =
+move-finite-requires : tie.Need-move-finite-requires
+move-finite-requires c κs =
     let a = c .before .before .before .before .before .before .before .before .before .before .args in
     let s = state (a .mesh) (now (a .vertices)) (now (a .triangles)) in
     let r = c .before .before .before .before .before .transform-refusal in
     let h : isAccepted (r .result) ≡ true = sym (c .before .before .before .before .accepted .ensures) ∙ not-false _ (c .before .before .before .if1 .left) in
-    transform-sound s (a .ops) (a .op-count) (a .degrees) (r .result) (r .ensures) h .vertices
+    transform-finite s (a .ops) (a .op-count) (a .degrees) (r .result) (r .ensures) h
 
 determinant-requires : tie.Need-determinant-requires
 determinant-requires c κs = search needs
@@ -109,7 +109,7 @@ returns-3 c =
     let z = ne-eqb m 0 (c .before .before .before .before .before .before .before .before .before .before .before .if2 .left) in
     let fold = c .before .before .before .before .before .before .before .before .before .before .fold in
     let f = folded (a .degrees) (take m (a .ops)) in
-    let v = c .before .before .before .before .before .before .before .before .move-all in
+    let v = c .before .before .before .before .before .before .before .before .move-finite in
     let det = c .before .before .before .before .before .determinant in
     let u = state (s .mesh) (eachTo (movedTriple f) (s .mesh .vertices) (s .vertices)) (eachTo flipTri (s .mesh .triangles) (s .triangles)) in
     let b = sym (ap {B = Bool} (λ (x : Float). lt x (ofBits binary64 0)) (det .ensures ∙ ap {B = Float} determinant (fold .ensures))) ∙ c .before .before .before .before .if3 .taken in
@@ -138,7 +138,7 @@ returns-4 c =
     let z = ne-eqb m 0 (c .before .before .before .before .before .before .before .if2 .left) in
     let fold = c .before .before .before .before .before .before .fold in
     let f = folded (a .degrees) (take m (a .ops)) in
-    let v = c .before .before .before .before .move-all in
+    let v = c .before .before .before .before .move-finite in
     let det = c .before .determinant in
     let u = state (s .mesh) (eachTo (movedTriple f) (s .mesh .vertices) (s .vertices)) (s .triangles) in
     let b = sym (ap {B = Bool} (λ (x : Float). lt x (ofBits binary64 0)) (det .ensures ∙ ap {B = Float} determinant (fold .ensures))) ∙ c .if3 .left in
@@ -159,7 +159,7 @@ transform-spec =
     same-length-4
     returns-2
     fold-requires
-    move-all-requires
+    move-finite-requires
     determinant-requires
     turn-all-requires
     same-length-5

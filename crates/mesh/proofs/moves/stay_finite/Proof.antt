@@ -1,93 +1,35 @@
--- `mesh::moves::stay_finite` meets its contract: what is left to test decides as the whole does. Assumes nothing.
-use denote.Ref.{now}
-use mathlib.Core.Path.{_≡_, refl, sym, ap, _∙_}
-use mathlib.Core.List.{map}
-use Prim.Native.Nat.{_≤_, _<_, _-_, _+_, _*_}
-use lib.ListN.{length, take, drop, length-map}
-use lib.Seq.{length-take-le}
-use borrow.Author.Tests.{not-true, not-false}
-use Rattle.math.specs.Vec.{vFinite}
-use Rattle.math.specs.Mat.{transformPoint}
-use Rattle.trimesh.specs.Slices.{points}
-use Rattle.trimesh.specs.SliceLaws.{length-points}
-use Rattle.mesh.specs.State.{every}
-use Rattle.mesh.specs.Triples.{vertexAt}
-use Rattle.mesh.proofs.Next.{next-map, next-points, every-passed, every-failed, every-ended}
+-- `mesh::moves::stay_finite` meets its contract: for finite vertices, or for others. Assumes nothing.
+use mathlib.Core.Path.{sym, _∙_}
 use native.Mathlib.Omega.{arith}
+use borrow.Author.Needs.{needs}
 use Rattle.mesh.proofs.moves.stay_finite.Statement.{statement}
 use Rattle.mesh.proofs.moves.stay_finite.Tie as tie
 
-abbrev Inv-loop : tie.InvT-loop
-Inv-loop vertices n a i₀ i = (i ≤ n) × (every vFinite (drop i (map (transformPoint a) (points (take (3 * n) vertices)))) ≡ every vFinite
-    (map (transformPoint a) (points (take (3 * n) vertices))))
+mul-all-finite : tie.Need-mul-all-finite
+mul-all-finite c = search needs
 
-abbrev μ-loop : tie.MeasureT-loop
-μ-loop vertices n a i₀ i = n - i
+all-finite-requires : tie.Need-all-finite-requires
+all-finite-requires c κs = search needs
 
-loop-holds : tie.Need-loop-holds Inv-loop μ-loop
-loop-holds c = (omega arith, refl)
+keep-finite-requires : tie.Need-keep-finite-requires
+keep-finite-requires c κs = record { within = omega arith; finite = sym (c .before .all-finite .ensures) ∙ c .if1 .taken }
 
-vertex-requires : tie.Need-vertex-requires Inv-loop μ-loop
-vertex-requires c κs = omega arith
+returns : tie.Need-returns
+returns c = search needs
 
-transform-point-requires : tie.Need-transform-point-requires Inv-loop μ-loop
-transform-point-requires c κs = tt
+stay-finite-divided-requires : tie.Need-stay-finite-divided-requires
+stay-finite-divided-requires c κs = search needs
 
-is-finite-requires : tie.Need-is-finite-requires Inv-loop μ-loop
-is-finite-requires c κs = tt
-
-returns : tie.Need-returns Inv-loop μ-loop
-returns c =
-    let a = c .before .before .before .before .before .before .before .args in
-    let l = c .before .before .before .before .before .loop in
-    let v = now (a .vertices) in
-    let x = transformPoint (a .a) (vertexAt v (l .i)) in
-    let p = points (take (3 * a .n) v) in
-    let e : c .before .is-finite .result ≡ vFinite x = c .before .is-finite .ensures
-    ∙ ap vFinite (c .before .before .transform-point .ensures ∙ ap (transformPoint (a .a)) (c .before .before .before .vertex .ensures)) in
-    let t = next-map (transformPoint (a .a)) p (l .i) (vertexAt v (l .i)) (next-points v (a .n) (l .i) (omega arith) (omega arith)) in
-    every-failed vFinite (map (transformPoint (a .a)) p) (l .i) x t (sym e ∙ not-true _ (c .if1 .taken)) (l .inv .1)
-
-add-i : tie.Need-add-i Inv-loop μ-loop
-add-i c = omega arith
-
-loop-less : tie.Need-loop-less Inv-loop μ-loop
-loop-less c = omega arith
-
-loop-again : tie.Need-loop-again Inv-loop μ-loop
-loop-again c =
-    let a = c .before .before .before .before .before .before .before .args in
-    let l = c .before .before .before .before .before .loop in
-    let v = now (a .vertices) in
-    let x = transformPoint (a .a) (vertexAt v (l .i)) in
-    let p = points (take (3 * a .n) v) in
-    let e : c .before .is-finite .result ≡ vFinite x = c .before .is-finite .ensures
-    ∙ ap vFinite (c .before .before .transform-point .ensures ∙ ap (transformPoint (a .a)) (c .before .before .before .vertex .ensures)) in
-    let t = next-map (transformPoint (a .a)) p (l .i) (vertexAt v (l .i)) (next-points v (a .n) (l .i) (omega arith) (omega arith)) in
-    (omega arith, every-passed vFinite (map (transformPoint (a .a)) p) (l .i) x t (sym e ∙ not-false _ (c .if1 .left)) (l .inv .1))
-
-returns-2 : tie.Need-returns-2 Inv-loop μ-loop
-returns-2 c =
-    let a = c .before .before .before .args in
-    let l = c .before .loop in
-    let v = now (a .vertices) in
-    let p = points (take (3 * a .n) v) in
-    let h : length (map (transformPoint (a .a)) p) ≤ l .i = omega
-    (arith, length-map p (transformPoint (a .a)), length-points (a .n) (take (3 * a .n) v) (length-take-le (3 * a .n) v (omega arith))) in
-    every-ended vFinite (map (transformPoint (a .a)) p) (l .i) h (l .inv .1)
+returns-2 : tie.Need-returns-2
+returns-2 c = search needs
 
 pub stay-finite-spec : {M : Type 1} → statement M
 stay-finite-spec =
     tie.close
     (tie.spec
-    Inv-loop
-    μ-loop
-    loop-holds
-    vertex-requires
-    transform-point-requires
-    is-finite-requires
+    mul-all-finite
+    all-finite-requires
+    keep-finite-requires
     returns
-    add-i
-    loop-less
-    loop-again
+    stay-finite-divided-requires
     returns-2)

@@ -7,7 +7,7 @@ use borrow.Author.Tests.{not-true, not-false, eq-eqb, ne-eqb}
 use Rattle.transform.specs.Checks.{opsFinite}
 use Rattle.refusal.specs.declared.Refusal.the-variants.{Accepted, PointNotFinite}
 use Rattle.mesh.specs.State.{state, badMesh, notFinite}
-use Rattle.mesh.proofs.Sound.{sound}
+use Rattle.mesh.proofs.Sound.{sound, finite-vertices}
 use Rattle.mesh.proofs.Outcomes.{or-first, or-second, or-neither, finite-test, points-test, transform-bad, transform-long, transform-not-finite}
 use Rattle.mesh.proofs.Outcomes.{transform-angle, transform-none, transform-point}
 use borrow.Author.Needs.{needs}
@@ -118,13 +118,16 @@ returns-6 c =
 fold-requires : tie.Need-fold-requires
 fold-requires c κs = search needs
 
-stay-finite-requires : tie.Need-stay-finite-requires
-stay-finite-requires c κs =
+keep-finite-requires : tie.Need-keep-finite-requires
+keep-finite-requires c κs =
     let a = c .before .before .before .before .before .before .before .before .before .before .before .before .before .before .args in
     let s = state (a .mesh) (now (a .vertices)) (now (a .triangles)) in
     let g : badMesh s ≡ false = sym (c .before .before .before .before .before .before .before .before .before .before .before .bad-mesh .ensures)
     ∙ c .before .before .before .before .before .before .before .before .before .before .if1 .left in
-    omega (arith, sound s g .vertices)
+    let f = finite-test s (c .before .before .before .before .before .before .before .all-finite .result) false
+    (c .before .before .before .before .before .before .before .all-finite .ensures)
+    (c .before .before .before .before .before .before .if3 .left) in
+    finite-vertices s g f
 
 returns-7 : tie.Need-returns-7
 returns-7 c =
@@ -144,8 +147,8 @@ returns-7 c =
     let w = sym (c .before .before .before .before .before .ops-angles-within .ensures) ∙ not-false _ (c .before .before .before .before .if5 .left) in
     let z = ne-eqb m 0 (c .before .before .before .if6 .left) in
     let y = not-true _ (c .if7 .taken) in
-    let p = points-test (a .ops) m (a .degrees) s (c .before .before .fold .result) (c .before .stay-finite .result) false (c .before .before .fold .ensures)
-    (c .before .stay-finite .ensures) y in
+    let p = points-test (a .ops) m (a .degrees) s (c .before .before .fold .result) (c .before .keep-finite .result) false (c .before .before .fold .ensures)
+    (c .before .keep-finite .ensures) y in
     transform-point (a .ops) m (a .degrees) s g k n w PointNotFinite false refl z p
 
 returns-8 : tie.Need-returns-8
@@ -166,8 +169,8 @@ returns-8 c =
     let w = sym (c .before .before .before .before .before .ops-angles-within .ensures) ∙ not-false _ (c .before .before .before .before .if5 .left) in
     let z = ne-eqb m 0 (c .before .before .before .if6 .left) in
     let y = not-false _ (c .if7 .left) in
-    let p = points-test (a .ops) m (a .degrees) s (c .before .before .fold .result) (c .before .stay-finite .result) true (c .before .before .fold .ensures)
-    (c .before .stay-finite .ensures) y in
+    let p = points-test (a .ops) m (a .degrees) s (c .before .before .fold .result) (c .before .keep-finite .result) true (c .before .before .fold .ensures)
+    (c .before .keep-finite .ensures) y in
     transform-point (a .ops) m (a .degrees) s g k n w Accepted true refl z p
 
 pub transform-refusal-spec : {M : Type 1} → statement M
@@ -187,6 +190,6 @@ transform-refusal-spec =
     returns-5
     returns-6
     fold-requires
-    stay-finite-requires
+    keep-finite-requires
     returns-7
     returns-8)

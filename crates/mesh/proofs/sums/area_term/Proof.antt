@@ -1,6 +1,9 @@
 -- `mesh::sums::area_term` meets its contract. Assumes nothing.
 use denote.Ref.{now}
-use lib.Ieee.{ofBits, ofInt}
+use mathlib.Core.Path.{_∙_, ap}
+use lib.Ieee.{binary64, ofBits, ofInt}
+use Rattle.root.specs.Sqrt.{sqrt}
+use Rattle.math.specs.Vec.{norm}
 use Rattle.mesh.proofs.Terms.{area-value}
 use borrow.Author.Needs.{needs}
 use Rattle.mesh.proofs.sums.area_term.Statement.{statement}
@@ -33,19 +36,23 @@ sub-requires-2 c κs = search needs
 cross-requires : tie.Need-cross-requires
 cross-requires c κs = search needs
 
-norm-requires : tie.Need-norm-requires
-norm-requires c κs = search needs
+norm-sq-requires : tie.Need-norm-sq-requires
+norm-sq-requires c κs = search needs
+
+sqrt-requires : tie.Need-sqrt-requires
+sqrt-requires c κs = search needs
 
 returns : tie.Need-returns
-unfolding ofBits ofInt
+unfolding ofBits ofInt norm
 returns c =
-    let a = c .before .before .before .before .before .before .before .before .before .args in
-    area-value (now (a .vertices)) (now (a .triangles)) (a .i) (c .before .before .before .before .before .before .corner .result)
-    (c .before .before .before .before .before .corner2 .result) (c .before .before .before .before .corner3 .result) (c .before .before .before .sub .result)
-    (c .before .before .sub2 .result) (c .before .cross .result) (c .norm .result)
-    (c .before .before .before .before .before .before .corner .ensures) (c .before .before .before .before .before .corner2 .ensures)
-    (c .before .before .before .before .corner3 .ensures) (c .before .before .before .sub .ensures) (c .before .before .sub2 .ensures) (c .before .cross .ensures)
-    (c .norm .ensures)
+    let d = c .before .before in
+    let a = d .before .before .before .before .before .before .before .before .args in
+    area-value (now (a .vertices)) (now (a .triangles)) (a .i) (d .before .before .before .before .before .corner .result)
+    (d .before .before .before .before .corner2 .result) (d .before .before .before .corner3 .result) (d .before .before .sub .result)
+    (d .before .sub2 .result) (d .cross .result) (c .sqrt .result)
+    (d .before .before .before .before .before .corner .ensures) (d .before .before .before .before .corner2 .ensures)
+    (d .before .before .before .corner3 .ensures) (d .before .before .sub .ensures) (d .before .sub2 .ensures) (d .cross .ensures)
+    (c .sqrt .ensures ∙ ap (sqrt binary64) (c .before .norm-sq .ensures))
 
 pub area-term-spec : {M : Type 1} → statement M
 area-term-spec =
@@ -60,5 +67,6 @@ area-term-spec =
     sub-requires
     sub-requires-2
     cross-requires
-    norm-requires
+    norm-sq-requires
+    sqrt-requires
     returns)
