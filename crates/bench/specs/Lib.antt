@@ -1,0 +1,3 @@
+-- What the contracts of `bench` cite beside the definitions of the calls.
+pub mod Answers
+pub mod Soups

@@ -1,0 +1,116 @@
+// The welder over a whole soup that is lent, nine floats a triangle.
+ghost use mathlib.Core.Path.{_≡_};
+ghost use mathlib.Core.Bool.{false};
+ghost use mathlib.Core.List.{[], _∷_};
+ghost use Prim.Native.Nat.{_+_, _*_, _≤_};
+ghost use lib.ListN.{length};
+ghost use Rattle.weld.specs.Rep.{held, Ready, Runs};
+ghost use Rattle.outcome.specs.Outcome.{shortWork};
+ghost use Rattle.tessellate.specs.Steps.{Welded};
+ghost use Rattle.bench.specs.Soups.{triangleAt, soupOf, Welds};
+use math::Vec3;
+use weld::Welder;
+
+// Welds triangle i.
+fn weld_at(
+    vertices: &mut [f64],
+    triangles: &mut [u32],
+    work: &mut [u32],
+    w: Welder,
+    soup: &[f64],
+    i: usize,
+) -> Welder
+    requires { ⌜ Ready (held w (now vertices) (now triangles) (now work)) ⌝ }
+    requires { ⌜ 9 * i + 9 ≤ length (now soup) ⌝ }
+    ensures { λ r. ⌜ Runs (triangleAt (now (soup .entry)) i ∷ [])
+        (held w (now (vertices .entry)) (now (triangles .entry)) (now (work .entry)))
+        (held r (now (vertices .exit)) (now (triangles .exit)) (now (work .exit))) ⌝ }
+{
+    let at = 9 * i;
+    weld::weld_triangle(
+        vertices,
+        triangles,
+        work,
+        w,
+        Vec3 {
+            x: soup[at],
+            y: soup[at + 1],
+            z: soup[at + 2],
+        },
+        Vec3 {
+            x: soup[at + 3],
+            y: soup[at + 4],
+            z: soup[at + 5],
+        },
+        Vec3 {
+            x: soup[at + 6],
+            y: soup[at + 7],
+            z: soup[at + 8],
+        },
+    )
+}
+
+// Welds the whole triangles of a soup.
+fn weld_each(
+    vertices: &mut [f64],
+    triangles: &mut [u32],
+    work: &mut [u32],
+    w: Welder,
+    soup: &[f64],
+) -> Welder
+    requires { ⌜ Ready (held w (now vertices) (now triangles) (now work)) ⌝ }
+    ensures { λ r. ⌜ Runs (soupOf (now (soup .entry)))
+        (held w (now (vertices .entry)) (now (triangles .entry)) (now (work .entry)))
+        (held r (now (vertices .exit)) (now (triangles .exit)) (now (work .exit))) ⌝ }
+{
+    let n = soup.len() / 9;
+    let mut st = w;
+    let mut i = 0;
+    while i < n {
+        st = weld_at(vertices, triangles, work, st, soup, i);
+        i += 1;
+    }
+    st
+}
+
+// Welds a soup from an empty mesh.
+fn weld_soup(soup: &[f64], vertices: &mut [f64], triangles: &mut [u32], work: &mut [u32]) -> Welder
+    requires { ⌜ shortWork (length (now vertices)) (length (now work)) ≡ false ⌝ }
+    ensures { λ w. ⌜ Welded (soupOf (now (soup .entry)) ∷ []) w (now (vertices .exit)) (now (triangles .exit)) ⌝ }
+{
+    fill::clear_numbers(work, 0);
+    let b = weld::begin(vertices, work);
+    weld::new_part(weld_each(vertices, triangles, work, b, soup))
+}
+
+// from_soup. Where the soup is refused, the counts are 0 and the slices hold what was welded before.
+#[no_mangle]
+pub extern "C" fn bench_from_soup(
+    soup: &[f64],
+    vertices: &mut [f64],
+    triangles: &mut [u32],
+    work: &mut [u32],
+    vertex_count: &mut usize,
+    triangle_count: &mut usize,
+) -> u32
+    ensures { λ r. ⌜ Welds (soupOf (now (soup .entry))) (length (now (vertices .entry))) (length (now (triangles .entry))) (length (now (work .entry)))
+        r (now («vertex_count» .exit)) (now («triangle_count» .exit)) (now (vertices .exit)) (now (triangles .exit)) ⌝ }
+{
+    *vertex_count = 0;
+    *triangle_count = 0;
+    if work.len() < 2 * (vertices.len() / 3) {
+        return 6;
+    }
+    let w = weld_soup(soup, vertices, triangles, work);
+    let finite = w.finite;
+    let room = w.room;
+    if !finite {
+        return 5;
+    }
+    if !room {
+        return 7;
+    }
+    *vertex_count = w.count;
+    *triangle_count = w.faces;
+    0
+}

@@ -1,0 +1,66 @@
+//! Times crates/bench beside the unpatched Rust. `bench [REPETITIONS [ROW]]`: a line for each row whose name holds the text ROW: its name,
+//! ns a triangle ours and of the Rust, and the Rust's over ours. Medians; ours and the Rust take turns.
+mod inputs;
+mod ours;
+mod rows;
+
+/// A sample lasts at least this long: small calls are repeated within it.
+const SAMPLE_NS: f64 = 5e6;
+
+unsafe extern "C" {
+    fn clock_gettime(clock: i32, time: *mut [i64; 2]) -> i32;
+}
+
+/// Processor time of this thread in nanoseconds, the system's work for it included: other programs' turns do not count.
+fn now() -> f64 {
+    const CLOCK_THREAD_CPUTIME_ID: i32 = 3;
+    let mut time = [0; 2];
+    assert_eq!(unsafe { clock_gettime(CLOCK_THREAD_CPUTIME_ID, &mut time) }, 0);
+    time[0] as f64 * 1e9 + time[1] as f64
+}
+
+fn main() {
+    let mut args = std::env::args().skip(1);
+    let repetitions: usize = args.next().map_or(9, |a| a.parse().expect("a number of repetitions"));
+    let wanted = args.next().unwrap_or_default();
+    println!("row\tours, ns a triangle\tRust, ns a triangle\tRust / ours");
+    for (name, build) in rows::ROWS.iter().filter(|(name, _)| name.contains(&wanted)) {
+        let mut row = build(name);
+        let (ours, rust) = time(&mut row, repetitions.max(1));
+        println!("{}\t{ours:.2}\t{rust:.2}\t{:.2}", row.name, rust / ours);
+    }
+}
+
+/// Medians, ns a triangle.
+fn time(row: &mut rows::Row, repetitions: usize) -> (f64, f64) {
+    let (n, m) = (calls(&mut row.ours), calls(&mut row.rust));
+    let (mut ours, mut rust) = (Vec::new(), Vec::new());
+    for _ in 0..repetitions {
+        ours.push(sample(&mut row.ours, n));
+        rust.push(sample(&mut row.rust, m));
+    }
+    (median(ours) / row.triangles as f64, median(rust) / row.triangles as f64)
+}
+
+/// How many calls make a sample; also warms up.
+fn calls(call: &mut dyn FnMut()) -> usize {
+    let mut n = 1;
+    while sample(call, n) * (n as f64) < SAMPLE_NS {
+        n *= 2;
+    }
+    n
+}
+
+/// Nanoseconds a call, over n calls.
+fn sample(call: &mut dyn FnMut(), n: usize) -> f64 {
+    let begin = now();
+    for _ in 0..n {
+        call();
+    }
+    (now() - begin) / n as f64
+}
+
+fn median(mut times: Vec<f64>) -> f64 {
+    times.sort_by(f64::total_cmp);
+    times[times.len() / 2]
+}

@@ -1,0 +1,199 @@
+//! What is measured: for each row a call of ours and a call of the Rust, on the same input.
+use crate::inputs::{grid, ring, screw, star};
+use crate::ours::{self, Lent, Solid};
+use csx_plain::CoordSystem::Cartesian;
+use csx_plain::primitives::{BoxShape, Cylinder, LinPoly, Primitive, RotPoly, Sphere, Wire};
+use csx_plain::tessellate::{TessellationOptions, TriMesh, tessellate};
+use csx_plain::{Mat4, Vec3};
+use std::f64::consts::TAU;
+use std::hint::black_box;
+
+pub struct Row {
+    pub name: &'static str,
+    /// By which the time of a call is divided.
+    pub triangles: usize,
+    pub ours: Box<dyn FnMut()>,
+    pub rust: Box<dyn FnMut()>,
+}
+
+/// The rows by name; a row is built when it is run.
+pub const ROWS: [(&str, fn(&'static str) -> Row); 14] = [
+    ("sphere 32x16", |name| sphere(name, 32, 16)),
+    ("sphere 256x128", |name| sphere(name, 256, 128)),
+    ("sphere 1024x1024", |name| sphere(name, 1024, 1024)),
+    ("cylinder 1024", cylinder),
+    ("box", a_box),
+    ("star 512 extruded", extruded),
+    ("outline 64 rotated 128", rotated),
+    ("wire 256 32/16", wire),
+    ("area", area),
+    ("signed_volume", signed_volume),
+    ("append", append),
+    ("flip", flip),
+    ("transform", transform),
+    ("from_soup 1000000", from_soup),
+];
+
+/// Stops where the counts differ. Bits are not compared here (the unpatched sine has others), but by tests/compare.
+fn agree(name: &str, refusal: u32, lent: &Lent, mesh: &TriMesh) {
+    assert_eq!(refusal, 0, "{name}: refused");
+    let counts = (mesh.vertices.len(), mesh.triangles.len());
+    assert_eq!((lent.vertex_count, lent.triangle_count), counts, "{name}: the counts differ");
+    assert!(lent.triangles.chunks_exact(3).zip(&mesh.triangles).all(|(t, u)| t == u), "{name}: the triangles differ");
+}
+
+/// A solid on both sides. The vertex and triangle slices have exactly the places that the result needs, as a caller lends them that knows
+/// its size; the work slice has two numbers for each vertex place, the fewest that are accepted.
+fn solid(name: &'static str, solid: Solid, primitive: Primitive, segments: usize, rings: usize) -> Row {
+    let options = TessellationOptions::default().with_segments(segments).with_sphere_rings(rings);
+    let mesh = tessellate(&primitive, Cartesian, &options);
+    let mut lent = Lent::new(mesh.vertices.len(), mesh.triangles.len());
+    agree(name, ours::tessellate(&solid, segments, rings, &mut lent), &lent, &mesh);
+    Row {
+        name,
+        triangles: mesh.triangles.len(),
+        ours: Box::new(move || _ = black_box(ours::tessellate(black_box(&solid), segments, rings, &mut lent))),
+        rust: Box::new(move || _ = black_box(tessellate(black_box(&primitive), Cartesian, &options))),
+    }
+}
+
+fn sphere(name: &'static str, segments: usize, rings: usize) -> Row {
+    let center = [0.5, 1.0, 2.0];
+    solid(name, Solid::Sphere(center, 1.5), Sphere::new(center, 1.5).into(), segments, rings)
+}
+
+fn cylinder(name: &'static str) -> Row {
+    let (a, b) = ([0.5, 1.0, 2.0], [1.5, 3.0, 5.0]);
+    solid(name, Solid::Cylinder(a, b, 1.5), Cylinder::new(a, b, 1.5).into(), 1024, 16)
+}
+
+fn a_box(name: &'static str) -> Row {
+    let (a, b) = ([0.0, 0.0, 0.0], [1.0, 2.0, 3.0]);
+    solid(name, Solid::Box(a, b), BoxShape::new(a, b).into(), 32, 16)
+}
+
+fn pairs(list: &[f64]) -> Vec<(f64, f64)> {
+    list.chunks_exact(2).map(|c| (c[0], c[1])).collect()
+}
+
+fn extruded(name: &'static str) -> Row {
+    let corners = star(512);
+    let primitive = LinPoly::new(2, 1.0, 2.0, pairs(&corners)).into();
+    solid(name, Solid::Extruded(2, 1.0, 2.0, corners), primitive, 32, 16)
+}
+
+fn rotated(name: &'static str) -> Row {
+    let corners = ring(64);
+    let primitive = RotPoly { stop_angle: TAU.into(), ..RotPoly::new(1, 2, pairs(&corners)) }.into();
+    solid(name, Solid::Rotated(1, 0.0, 2, 0.0, TAU, corners), primitive, 128, 16)
+}
+
+fn wire(name: &'static str) -> Row {
+    let points = screw(256);
+    let primitive = Wire::new(points.chunks_exact(3).map(|c| [c[0], c[1], c[2]]), 0.05).into();
+    solid(name, Solid::Wire(0.05, points), primitive, 32, 16)
+}
+
+/// The sphere of the mesh rows, on both sides, in slices with places for `times` as much.
+fn meshes(name: &str, times: usize) -> (Lent, TriMesh) {
+    let options = TessellationOptions::default().with_segments(256).with_sphere_rings(128);
+    let mesh = tessellate(&Sphere::new([0.5, 1.0, 2.0], 1.5).into(), Cartesian, &options);
+    let mut lent = Lent::new(times * mesh.vertices.len(), times * mesh.triangles.len());
+    agree(name, ours::tessellate(&Solid::Sphere([0.5, 1.0, 2.0], 1.5), 256, 128, &mut lent), &lent, &mesh);
+    (lent, mesh)
+}
+
+fn near(name: &str, x: f64, y: f64) {
+    assert!((x - y).abs() <= 1e-9 * y.abs(), "{name}: {x} and {y}");
+}
+
+fn area(name: &'static str) -> Row {
+    let (lent, mesh) = meshes(name, 1);
+    near(name, ours::area(&lent), mesh.area());
+    Row {
+        name,
+        triangles: mesh.triangles.len(),
+        ours: Box::new(move || _ = black_box(ours::area(black_box(&lent)))),
+        rust: Box::new(move || _ = black_box(black_box(&mesh).area())),
+    }
+}
+
+fn signed_volume(name: &'static str) -> Row {
+    let (lent, mesh) = meshes(name, 1);
+    near(name, ours::signed_volume(&lent), mesh.signed_volume());
+    Row {
+        name,
+        triangles: mesh.triangles.len(),
+        ours: Box::new(move || _ = black_box(ours::signed_volume(black_box(&lent)))),
+        rust: Box::new(move || _ = black_box(black_box(&mesh).signed_volume())),
+    }
+}
+
+/// The sphere appended to itself. Ours gets the first counts again before each call; the Rust's lists are cut back and keep their
+/// capacity, so neither side allocates. The triangles that are appended count.
+fn append(name: &'static str) -> Row {
+    let (other, more) = meshes(name, 1);
+    let (mut lent, mut mesh) = meshes(name, 2);
+    let (n, k) = (mesh.vertices.len(), mesh.triangles.len());
+    mesh.append(&more);
+    agree(name, ours::append(&mut lent, &other), &lent, &mesh);
+    Row {
+        name,
+        triangles: k,
+        ours: Box::new(move || {
+            (lent.vertex_count, lent.triangle_count) = (n, k);
+            black_box(ours::append(black_box(&mut lent), &other));
+        }),
+        rust: Box::new(move || {
+            mesh.vertices.truncate(n);
+            mesh.triangles.truncate(k);
+            black_box(&mut mesh).append(&more);
+        }),
+    }
+}
+
+fn flip(name: &'static str) -> Row {
+    let (mut lent, mut mesh) = meshes(name, 1);
+    mesh.flip();
+    agree(name, ours::flip(&mut lent), &lent, &mesh);
+    Row {
+        name,
+        triangles: mesh.triangles.len(),
+        ours: Box::new(move || _ = black_box(ours::flip(black_box(&mut lent)))),
+        rust: Box::new(move || black_box(&mut mesh).flip()),
+    }
+}
+
+/// A rotation, then a translation; on both sides the matrix is made in the call. The mesh moves on from call to call.
+fn transform(name: &'static str) -> Row {
+    let (axis, angle, by) = ([1.0, 2.0, 3.0], 0.001, [0.001, 0.002, -0.001]);
+    let matrix = move || Mat4::translation(Vec3(by)) * Mat4::rotation(Vec3(axis), angle);
+    let (mut lent, mut mesh) = meshes(name, 1);
+    mesh.transform(&matrix());
+    agree(name, ours::transform(&mut lent, axis, angle, by), &lent, &mesh);
+    let last = mesh.vertices.len() - 1;
+    near(name, lent.vertices[3 * last], mesh.vertices[last].0[0]);
+    Row {
+        name,
+        triangles: mesh.triangles.len(),
+        ours: Box::new(move || _ = black_box(ours::transform(black_box(&mut lent), axis, angle, by))),
+        rust: Box::new(move || black_box(&mut mesh).transform(&black_box(matrix()))),
+    }
+}
+
+/// Welding alone: a grid of 1000 × 500 squares, whose soup is made before. The Rust's lists and its HashMap grow in the call.
+fn from_soup(name: &'static str) -> Row {
+    let soup = grid(1000, 500);
+    let floats: Vec<f64> = soup.iter().flatten().flat_map(|p| p.0).collect();
+    let mesh = TriMesh::from_soup(&soup);
+    let mut lent = Lent::new(mesh.vertices.len(), mesh.triangles.len());
+    agree(name, ours::from_soup(&floats, &mut lent), &lent, &mesh);
+    // No sine here: the bits are the same.
+    assert!(lent.vertices.iter().eq(mesh.vertices.iter().flat_map(|p| &p.0)), "{name}: the vertices differ");
+    Row {
+        name,
+        triangles: mesh.triangles.len(),
+        ours: Box::new(move || _ = black_box(ours::from_soup(black_box(&floats), &mut lent))),
+        rust: Box::new(move || _ = black_box(TriMesh::from_soup(black_box(&soup)))),
+    }
+}
