@@ -83,7 +83,7 @@ fn weld_soup(soup: &[f64], vertices: &mut [f64], triangles: &mut [u32], work: &m
     weld::new_part(weld_each(vertices, triangles, work, b, soup))
 }
 
-// from_soup. Where the soup is refused, the counts are 0 and the slices hold what was welded before.
+// from_soup, for the bench alone. Where the soup is refused, only the number is promised.
 #[no_mangle]
 pub extern "C" fn bench_from_soup(
     soup: &[f64],
