@@ -12,7 +12,7 @@ max-requires c κs = search needs
 
 returns : tie.Need-returns
 unfolding include
-returns c = cc
+returns c i = record { min = c .before .min .ensures i; max = c .max .ensures i }
 
 pub include-spec : {M : Type 1} → statement M
 include-spec = tie.close (tie.spec min-requires max-requires returns)

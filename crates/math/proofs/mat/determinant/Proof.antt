@@ -1,6 +1,7 @@
 -- `math::mat::determinant` meets its contract. Assumes nothing.
+use mathlib.Core.Path.{_∙_}
 use borrow.Author.Needs.{needs}
-use Rattle.math.specs.Mat.{determinant}
+use Rattle.math.specs.Mat.{detRows, determinant}
 use Rattle.math.proofs.mat.determinant.Statement.{statement}
 use Rattle.math.proofs.mat.determinant.Tie as tie
 
@@ -18,7 +19,7 @@ det-rows-requires c κs = search needs
 
 returns : tie.Need-returns
 unfolding determinant
-returns c = cc
+returns c = c .det-rows .ensures ∙ (λ i. detRows (c .before .before .before .row-of .ensures i) (c .before .before .row-of2 .ensures i) (c .before .row-of3 .ensures i))
 
 pub determinant-spec : {M : Type 1} → statement M
 determinant-spec =

@@ -1,6 +1,8 @@
 -- `math::mat::product` meets its contract. Assumes nothing.
+use mathlib.Core.Path.{_∙_}
 use borrow.Author.Needs.{needs}
-use Rattle.math.specs.Mat.{product}
+use Rattle.math.specs.Mat.{productRow, product}
+use Rattle.math.proofs.Made.{made}
 use Rattle.math.proofs.mat.product.Statement.{statement}
 use Rattle.math.proofs.mat.product.Tie as tie
 
@@ -33,7 +35,14 @@ from-rows-requires c κs = search needs
 
 returns : tie.Need-returns
 unfolding product
-returns c = cc
+returns c =
+    let o = c .before .before .before .before .before .before .before .before .before .args .o in
+    made
+    (c .before .before .before .before .before .before .before .product-row .ensures ∙ (λ i. productRow (c .before .before .before .before .before .before .before .before .row-of .ensures i) o))
+    (c .before .before .before .before .before .product-row2 .ensures ∙ (λ i. productRow (c .before .before .before .before .before .before .row-of2 .ensures i) o))
+    (c .before .before .before .product-row3 .ensures ∙ (λ i. productRow (c .before .before .before .before .row-of3 .ensures i) o))
+    (c .before .product-row4 .ensures ∙ (λ i. productRow (c .before .before .row-of4 .ensures i) o))
+    (c .from-rows .ensures)
 
 pub product-spec : {M : Type 1} → statement M
 product-spec =

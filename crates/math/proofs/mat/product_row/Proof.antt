@@ -1,6 +1,7 @@
 -- `math::mat::product_row` meets its contract. Assumes nothing.
+use mathlib.Core.Path.{_∙_}
 use borrow.Author.Needs.{needs}
-use Rattle.math.specs.Mat.{productRow}
+use Rattle.math.specs.Mat.{timesRows, productRow}
 use Rattle.math.proofs.mat.product_row.Statement.{statement}
 use Rattle.math.proofs.mat.product_row.Tie as tie
 
@@ -21,7 +22,7 @@ times-rows-requires c κs = search needs
 
 returns : tie.Need-returns
 unfolding productRow
-returns c = cc
+returns c = c .times-rows .ensures ∙ (λ i. timesRows (c .before .before .before .before .before .args .r) (c .before .before .before .before .row-of .ensures i) (c .before .before .before .row-of2 .ensures i) (c .before .before .row-of3 .ensures i) (c .before .row-of4 .ensures i))
 
 pub product-row-spec : {M : Type 1} → statement M
 product-row-spec =

@@ -1,6 +1,7 @@
 -- `math::mat::rotation` meets its contract. Assumes nothing.
+use mathlib.Core.Path.{_∙_}
 use borrow.Author.Needs.{needs}
-use Rattle.math.specs.Mat.{rotation}
+use Rattle.math.specs.Mat.{turn, rotation}
 use Rattle.math.proofs.mat.rotation.Statement.{statement}
 use Rattle.math.proofs.mat.rotation.Tie as tie
 
@@ -15,7 +16,9 @@ turn-requires c κs = search needs
 
 returns : tie.Need-returns
 unfolding rotation
-returns c = cc
+returns c =
+    let p = c .before .before .sin-cos .ensures in
+    c .turn .ensures ∙ (λ i. turn (c .before .normalized .ensures i) (p i .sin) (p i .cos))
 
 pub rotation-spec : {M : Type 1} → statement M
 rotation-spec = tie.close (tie.spec sin-cos-requires normalized-requires turn-requires returns)

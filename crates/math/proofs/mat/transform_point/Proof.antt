@@ -1,6 +1,7 @@
 -- `math::mat::transform_point` meets its contract. Assumes nothing.
+use mathlib.Core.Path.{_∙_}
 use borrow.Author.Needs.{needs}
-use Rattle.math.specs.Mat.{transformPoint}
+use Rattle.math.specs.Mat.{along, overW, transformPoint}
 use Rattle.math.proofs.mat.transform_point.Statement.{statement}
 use Rattle.math.proofs.mat.transform_point.Tie as tie
 
@@ -33,7 +34,13 @@ over-w-requires c κs = search needs
 
 returns : tie.Need-returns
 unfolding transformPoint
-returns c = cc
+returns c =
+    let p = c .before .before .before .before .before .before .before .before .before .args .p in
+    let x = c .before .before .before .before .before .before .before .along .ensures ∙ (λ i. along (c .before .before .before .before .before .before .before .before .row-of .ensures i) p) in
+    let y = c .before .before .before .before .before .along2 .ensures ∙ (λ i. along (c .before .before .before .before .before .before .row-of2 .ensures i) p) in
+    let z = c .before .before .before .along3 .ensures ∙ (λ i. along (c .before .before .before .before .row-of3 .ensures i) p) in
+    let w = c .before .along4 .ensures ∙ (λ i. along (c .before .before .row-of4 .ensures i) p) in
+    c .over-w .ensures ∙ (λ i. overW (x i) (y i) (z i) (w i))
 
 pub transform-point-spec : {M : Type 1} → statement M
 transform-point-spec =

@@ -1,4 +1,5 @@
 -- `math::vec::is_finite` meets its contract. Assumes nothing.
+use mathlib.Core.Bool.{_&&_}
 use borrow.Author.Needs.{needs}
 use Rattle.math.specs.Vec.{vFinite}
 use Rattle.math.proofs.vec.is_finite.Statement.{statement}
@@ -15,7 +16,7 @@ is-finite-requires-3 c κs = search needs
 
 returns : tie.Need-returns
 unfolding vFinite
-returns c = cc
+returns c i = c .before .before .is-finite .ensures i && c .before .is-finite2 .ensures i && c .is-finite3 .ensures i
 
 pub is-finite-spec : {M : Type 1} → statement M
 is-finite-spec =

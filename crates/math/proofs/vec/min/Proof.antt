@@ -15,7 +15,7 @@ min-requires-3 c κs = search needs
 
 returns : tie.Need-returns
 unfolding vMin
-returns c = cc
+returns c i = record { x = c .before .before .min .ensures i; y = c .before .min2 .ensures i; z = c .min3 .ensures i }
 
 pub min-spec : {M : Type 1} → statement M
 min-spec = tie.close (tie.spec min-requires min-requires-2 min-requires-3 returns)

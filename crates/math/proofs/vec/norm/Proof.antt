@@ -1,4 +1,7 @@
 -- `math::vec::norm` meets its contract. Assumes nothing.
+use mathlib.Core.Path.{_∙_}
+use lib.Ieee.{binary64}
+use Rattle.root.specs.Sqrt.{sqrt}
 use borrow.Author.Needs.{needs}
 use Rattle.math.specs.Vec.{norm}
 use Rattle.math.proofs.vec.norm.Statement.{statement}
@@ -12,7 +15,7 @@ sqrt-requires c κs = search needs
 
 returns : tie.Need-returns
 unfolding norm
-returns c = cc
+returns c = c .sqrt .ensures ∙ (λ i. sqrt binary64 (c .before .norm-sq .ensures i))
 
 pub norm-spec : {M : Type 1} → statement M
 norm-spec = tie.close (tie.spec norm-sq-requires sqrt-requires returns)
