@@ -1,4 +1,7 @@
 -- `points::arc::arc_segments` meets its contract. Assumes nothing.
+use mathlib.Core.Path.{_∙_}
+use Prim.Native.Nat.{max}
+use Rattle.ieee.specs.Number.{ceiling}
 use Rattle.soups.specs.Arc.{arcSegments}
 use borrow.Author.Needs.{needs}
 use Rattle.points.proofs.arc.arc_segments.Statement.{statement}
@@ -15,7 +18,7 @@ larger-requires c κs = search needs
 
 returns : tie.Need-returns
 unfolding arcSegments
-returns c = cc
+returns c = c .larger .ensures ∙ (λ i. max ((c .before .ceil-to-usize .ensures ∙ (λ j. ceiling (c .before .before .arc-share .ensures j))) i) 1)
 
 pub arc-segments-spec : {M : Type 1} → statement M
 arc-segments-spec =

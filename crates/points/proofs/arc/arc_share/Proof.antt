@@ -1,5 +1,8 @@
 -- `points::arc::arc_share` meets its contract. Assumes nothing.
 use Rattle.soups.specs.Arc.{arcShare}
+use lib.IntN.{pos}
+use lib.Ieee.{binary64, div, mul, ofInt}
+use Rattle.ieee.specs.Number.{tau}
 use Rattle.ieee.specs.Ends.{ofNat-in}
 use native.Mathlib.Omega.{arith}
 use borrow.Author.Needs.{needs}
@@ -17,7 +20,7 @@ counted-span-requires c κs = search needs
 
 returns : tie.Need-returns
 unfolding arcShare
-returns c = cc
+returns c i = div binary64 (mul binary64 (ofInt binary64 (pos (c .before .before .larger .ensures i))) (c .counted-span .ensures i)) tau
 
 pub arc-share-spec : {M : Type 1} → statement M
 arc-share-spec =

@@ -1,4 +1,6 @@
 -- `points::around::around_axis_by` meets its contract. Assumes nothing.
+use mathlib.Core.Path.{_∙_}
+use Rattle.math.specs.Vec.{vAdd, vMul}
 use Rattle.points.specs.Pieces.{turned, aroundAxisBy}
 use borrow.Author.Needs.{needs}
 use Rattle.points.proofs.around.around_axis_by.Statement.{statement}
@@ -21,7 +23,11 @@ add-requires-2 c κs = search needs
 
 returns : tie.Need-returns
 unfolding aroundAxisBy turned
-returns c = cc
+returns c =
+    let s = c .before .before .before .before .before .args in
+    let m = c .before .before .before .add .ensures ∙ (λ i. vAdd (s .a) (c .before .before .before .before .mul .ensures i)) in
+    let n = c .before .mul2 .ensures ∙ (λ i. vMul (c .before .before .turned .ensures i) (s .x)) in
+    c .add2 .ensures ∙ (λ i. vAdd (m i) (n i))
 
 pub around-axis-by-spec : {M : Type 1} → statement M
 around-axis-by-spec =

@@ -1,4 +1,5 @@
 -- `points::around::cylindrical_to_cartesian` meets its contract. Assumes nothing.
+use mathlib.Core.Path.{_∙_}
 use Rattle.points.specs.Pieces.{cylindricalBy}
 use Rattle.soups.specs.Coords.{cylindricalToCartesian}
 use borrow.Author.Needs.{needs}
@@ -13,7 +14,9 @@ cylindrical-by-requires c κs = search needs
 
 returns : tie.Need-returns
 unfolding cylindricalToCartesian cylindricalBy
-returns c = cc
+returns c =
+    let p = c .before .before .args .p in
+    c .cylindrical-by .ensures ∙ (λ i. cylindricalBy (c .before .sin-cos .ensures i) (p .x) (p .z))
 
 pub cylindrical-to-cartesian-spec : {M : Type 1} → statement M
 cylindrical-to-cartesian-spec =

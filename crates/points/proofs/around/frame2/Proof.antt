@@ -1,4 +1,6 @@
 -- `points::around::frame2` meets its contract. Assumes nothing.
+use mathlib.Core.Path.{_∙_}
+use Rattle.math.specs.Vec.{cross}
 use Rattle.soups.specs.Cylinder.{frame2}
 use borrow.Author.Needs.{needs}
 use Rattle.points.proofs.around.frame2.Statement.{statement}
@@ -12,7 +14,7 @@ cross-requires c κs = search needs
 
 returns : tie.Need-returns
 unfolding frame2
-returns c = cc
+returns c = c .cross .ensures ∙ (λ i. cross (c .before .before .args .d) (c .before .frame1 .ensures i))
 
 pub frame2-spec : {M : Type 1} → statement M
 frame2-spec = tie.close (tie.spec frame1-requires cross-requires returns)

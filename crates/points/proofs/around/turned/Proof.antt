@@ -1,4 +1,6 @@
 -- `points::around::turned` meets its contract. Assumes nothing.
+use mathlib.Core.Path.{_∙_}
+use Rattle.math.specs.Vec.{vAdd}
 use Rattle.points.specs.Pieces.{turned}
 use borrow.Author.Needs.{needs}
 use Rattle.points.proofs.around.turned.Statement.{statement}
@@ -15,7 +17,7 @@ add-requires c κs = search needs
 
 returns : tie.Need-returns
 unfolding turned
-returns c = cc
+returns c = c .add .ensures ∙ (λ i. vAdd (c .before .before .mul .ensures i) (c .before .mul2 .ensures i))
 
 pub turned-spec : {M : Type 1} → statement M
 turned-spec = tie.close (tie.spec mul-requires mul-requires-2 add-requires returns)

@@ -1,4 +1,6 @@
 -- `points::ball::on_sphere` meets its contract. Assumes nothing.
+use mathlib.Core.Path.{_∙_}
+use Rattle.math.specs.Vec.{vAdd}
 use Rattle.soups.specs.Sphere.{onSphere}
 use borrow.Author.Needs.{needs}
 use Rattle.points.proofs.ball.on_sphere.Statement.{statement}
@@ -12,7 +14,7 @@ add-requires c κs = search needs
 
 returns : tie.Need-returns
 unfolding onSphere
-returns c = cc
+returns c = c .add .ensures ∙ (λ i. vAdd (c .before .before .before .before .before .before .args .c) (c .before .mul .ensures i))
 
 pub on-sphere-spec : {M : Type 1} → statement M
 on-sphere-spec = tie.close (tie.spec mul-requires add-requires returns)

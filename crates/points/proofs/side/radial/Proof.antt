@@ -1,4 +1,6 @@
 -- `points::side::radial` meets its contract. Assumes nothing.
+use mathlib.Core.Path.{_∙_}
+use Rattle.math.specs.Vec.{vAdd, vMul, cross}
 use Rattle.points.specs.Pieces.{radial}
 use borrow.Author.Needs.{needs}
 use Rattle.points.proofs.side.radial.Statement.{statement}
@@ -24,7 +26,13 @@ add-requires c κs = search needs
 
 returns : tie.Need-returns
 unfolding radial
-returns c = cc
+returns c =
+    let t = c .before .before .before .before .before .before .args .t in
+    let u = c .before .before .before .before .before .unit .ensures in
+    let w = c .before .before .before .cross .ensures ∙ (λ i. cross (c .before .before .before .before .unit2 .ensures i) (u i)) in
+    let m = c .before .before .mul .ensures ∙ (λ i. vMul (u i) (t .cos)) in
+    let n = c .before .mul2 .ensures ∙ (λ i. vMul (w i) (t .sin)) in
+    c .add .ensures ∙ (λ i. vAdd (m i) (n i))
 
 pub radial-spec : {M : Type 1} → statement M
 radial-spec =

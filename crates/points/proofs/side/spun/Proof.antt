@@ -1,4 +1,6 @@
 -- `points::side::spun` meets its contract. Assumes nothing.
+use mathlib.Core.Path.{_∙_}
+use Rattle.math.specs.Vec.{vAdd, vMul}
 use Rattle.points.specs.Pieces.{radial}
 use Rattle.soups.specs.Outline.{spun}
 use borrow.Author.Needs.{needs}
@@ -22,7 +24,11 @@ add-requires c κs = search needs
 
 returns : tie.Need-returns
 unfolding spun radial
-returns c = cc
+returns c =
+    let p = c .before .before .before .before .before .args .c in
+    let m = c .before .before .before .mul .ensures ∙ (λ i. vMul (c .before .before .before .before .unit .ensures i) (p .y)) in
+    let n = c .before .mul2 .ensures ∙ (λ i. vMul (c .before .before .radial .ensures i) (p .x)) in
+    c .add .ensures ∙ (λ i. vAdd (m i) (n i))
 
 pub spun-spec : {M : Type 1} → statement M
 spun-spec =

@@ -1,4 +1,8 @@
 -- `points::surface::extruded_at` meets its contract. Assumes nothing.
+use mathlib.Core.Path.{_∙_}
+use denote.Ref.{now}
+use Rattle.outline.specs.Corners.{point}
+use Rattle.soups.specs.Outline.{planePoint}
 use Rattle.points.specs.Pieces.{onExtruded}
 use Rattle.points.proofs.Surfaces.{round-within}
 use borrow.Author.Needs.{needs}
@@ -19,7 +23,10 @@ plane-point-requires c κs = search needs
 
 returns : tie.Need-returns
 unfolding onExtruded
-returns c = cc
+returns c =
+    let s = c .before .before .before .before .before .args in
+    let p = c .before .before .corner .ensures ∙ (λ i. point (now (s .corners)) (c .before .before .before .round .ensures i)) in
+    c .plane-point .ensures ∙ (λ i. planePoint (s .n) (p i) (c .before .height .ensures i))
 
 pub extruded-at-spec : {M : Type 1} → statement M
 extruded-at-spec =

@@ -1,5 +1,7 @@
 -- `points::surface::face_at` meets its contract. Assumes nothing.
 use denote.Ref.{now}
+use mathlib.Core.Path.{_∙_}
+use Rattle.soups.specs.ParamBox.{facePoint}
 use Rattle.points.proofs.Surfaces.{face-plain, face-cylindrical, face-around, chart-tabled}
 use borrow.Author.Needs.{needs}
 use Rattle.points.proofs.surface.face_at.Statement.{statement}
@@ -42,7 +44,10 @@ around-axis-by-requires : tie.Need-around-axis-by-requires
 around-axis-by-requires c κs = search needs
 
 returns : tie.Need-returns
-returns c = face-plain _ _ _ _ _ _ _ _ (c .before .before .before .enum-told .given .1) (cc)
+returns c =
+    let s = c .before .before .before .before .before .before .before .args in
+    face-plain _ _ _ _ _ _ _ _ (c .before .before .before .enum-told .given .1)
+    (c .face-point .ensures ∙ (λ i. facePoint (s .k) (s .val) (c .before .before .line-at .ensures i) (c .before .line-at2 .ensures i)))
 
 returns-2 : tie.Need-returns-2
 returns-2 c = face-cylindrical _ _ _ _ _ _ _ _ _ (c .before .before .enum-told2 .given .1) (c .before .polar-at .ensures) (c .cylindrical-by .ensures)

@@ -1,4 +1,8 @@
 -- `points::surface::rotated_at` meets its contract. Assumes nothing.
+use mathlib.Core.Path.{_∙_}
+use denote.Ref.{now}
+use Rattle.outline.specs.Corners.{point}
+use Rattle.soups.specs.Outline.{spun}
 use Rattle.points.specs.Pieces.{onRotated}
 use Rattle.points.proofs.Surfaces.{round-within}
 use borrow.Author.Needs.{needs}
@@ -16,7 +20,10 @@ spun-requires c κs = search needs
 
 returns : tie.Need-returns
 unfolding onRotated
-returns c = cc
+returns c =
+    let s = c .before .before .before .before .args in
+    let p = c .before .corner .ensures ∙ (λ i. point (now (s .corners)) (c .before .before .round .ensures i)) in
+    c .spun .ensures ∙ (λ i. spun (s .a) (s .q) (p i) (s .t))
 
 pub rotated-at-spec : {M : Type 1} → statement M
 rotated-at-spec = tie.close (tie.spec round-requires corner-requires spun-requires returns)
