@@ -9,10 +9,10 @@ use Rattle.math.specs.declared.Vec3.{Vec3}
 use Rattle.math.specs.Vec.{axis}
 use Rattle.weld.specs.Rep.{Held, Ready, Runs}
 use Rattle.weld.specs.Runs.{runs-none, runs-then, runs-as}
-use Rattle.points.specs.Within.{FaceWithin}
-use Rattle.points.specs.declared.turns.Turns.the-variants.{OnLine}
-use Rattle.points.specs.Turns.{Filled, Tabled}
-use Rattle.points.proofs.Surfaces.{face-tabled}
+use Rattle.surfaces.specs.Within.{FaceWithin}
+use Rattle.surfaces.specs.declared.turns.Turns.the-variants.{OnLine}
+use Rattle.surfaces.specs.Turns.{Filled, Tabled}
+use Rattle.surfaces.proofs.Surfaces.{face-tabled}
 use Rattle.soups.specs.declared.Line.{Line}
 use Rattle.soups.specs.declared.Chart.{Chart}
 use Rattle.soups.specs.declared.Chart.the-variants.{Cartesian, Cylindrical, Around}

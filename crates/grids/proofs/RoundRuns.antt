@@ -10,7 +10,7 @@ use Rattle.math.specs.declared.Vec3.{Vec3}
 use Rattle.math.specs.Vec.{new, vSub, vDiv, norm}
 use Rattle.weld.specs.Rep.{Held, Ready, Runs}
 use Rattle.weld.specs.Runs.{runs-none, runs-then, runs-as}
-use Rattle.points.specs.Within.{SphereWithin}
+use Rattle.surfaces.specs.Within.{SphereWithin}
 use Rattle.soups.specs.declared.Surface.the-variants.{Sphere}
 use Rattle.soups.specs.declared.Chart.the-variants.{Around}
 use Rattle.soups.specs.Grid.{Soup, grid}

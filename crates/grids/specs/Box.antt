@@ -9,8 +9,8 @@ use Rattle.soups.specs.declared.Chart.{Chart}
 use Rattle.soups.specs.declared.Chart.the-variants.{Cartesian, Cylindrical, Around}
 use Rattle.soups.specs.ParamBox.{three}
 use Rattle.soups.specs.Surface.{lineOf}
-use Rattle.points.specs.declared.turns.Turns.the-variants.{OnLine}
-use Rattle.points.specs.Turns.{Filled}
+use Rattle.surfaces.specs.declared.turns.Turns.the-variants.{OnLine}
+use Rattle.surfaces.specs.Turns.{Filled}
 
 -- the table of the middle axis, for a chart that takes it as an angle
 abbrev pub AxisTabled : Chart → Line → List Float → Type 0

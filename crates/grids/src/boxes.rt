@@ -12,7 +12,7 @@ ghost use Rattle.soups.specs.Surface.{mapped, lineOf};
 ghost use Rattle.grids.specs.Box.{BoxWithin};
 use crate::grid;
 use math::Vec3;
-use points::Turns;
+use surfaces::Turns;
 use soups::Chart;
 use soups::Line;
 use soups::Surface;
@@ -274,7 +274,7 @@ fn weld_cylindrical_box(
     let mut table = [0.0; 2050];
     let mut numbers = [0usize; 1025];
     let l = line_of(lo, high, n, full, 1);
-    points::fill_turns(Turns::OnLine { l }, n, &mut table);
+    surfaces::fill_turns(Turns::OnLine { l }, n, &mut table);
     weld_param_box(
         vertices,
         triangles,

@@ -3,8 +3,8 @@ ghost use mathlib.Core.Path.{_≡_};
 ghost use Prim.Native.Nat.{_+_, _≤_, _<_};
 ghost use lib.ListN.{length};
 ghost use Rattle.weld.specs.Rep.{held, Ready, Runs};
-ghost use Rattle.points.specs.Within.{Within};
-ghost use Rattle.points.specs.Turns.{Tabled};
+ghost use Rattle.surfaces.specs.Within.{Within};
+ghost use Rattle.surfaces.specs.Turns.{Tabled};
 ghost use Rattle.soups.specs.Surface.{surfaceAt};
 ghost use Rattle.soups.specs.Grid as Grid;
 ghost use Rattle.grids.specs.Cell.{turned};
@@ -70,14 +70,14 @@ fn weld_row(
         (held r (now (vertices .exit)) (now (triangles .exit)) (now (work .exit))) ⌝ }
 {
     let mut st = w;
-    let mut a = points::surface_point(s, corners, rows, cols, i, 0);
-    let mut b = points::surface_point(s, corners, rows, cols, i + 1, 0);
+    let mut a = surfaces::surface_point(s, corners, rows, cols, i, 0);
+    let mut b = surfaces::surface_point(s, corners, rows, cols, i + 1, 0);
     let mut na = numbers[0];
     let mut nb = w.count;
     let mut j = 0;
     while j < nv {
-        let d = points::surface_point(s, corners, rows, cols, i, j + 1);
-        let c = points::surface_point(s, corners, rows, cols, i + 1, j + 1);
+        let d = surfaces::surface_point(s, corners, rows, cols, i, j + 1);
+        let c = surfaces::surface_point(s, corners, rows, cols, i + 1, j + 1);
         let nd = numbers[j + 1];
         let q = weld_cell(vertices, triangles, work, st, flip, a, b, c, d, na, nb, nd);
         numbers[j] = q.b;

@@ -7,7 +7,7 @@ ghost use Rattle.soups.specs.Cylinder as Cylinder;
 use crate::boxes;
 use crate::grid;
 use math::Vec3;
-use points::Turns;
+use surfaces::Turns;
 use soups::Chart;
 use soups::Surface;
 use weld::Welder;
@@ -40,8 +40,8 @@ pub fn weld_sphere(
     let mut rows = [0.0; 2050];
     let mut cols = [0.0; 2050];
     let mut numbers = [0usize; 1025];
-    points::fill_turns(Turns::Latitudes { nt }, nt, &mut rows);
-    points::fill_turns(Turns::Longitudes { np }, np, &mut cols);
+    surfaces::fill_turns(Turns::Latitudes { nt }, nt, &mut rows);
+    surfaces::fill_turns(Turns::Longitudes { np }, np, &mut cols);
     let s = Surface::Sphere { c, r, nt, np };
     grid::weld_grid(
         vertices,
@@ -144,7 +144,7 @@ fn weld_tube(
     let mut table = [0.0; 2050];
     let mut numbers = [0usize; 1025];
     let l = boxes::line_of(lo, hi, np, true, 1);
-    points::fill_turns(Turns::OnLine { l }, np, &mut table);
+    surfaces::fill_turns(Turns::OnLine { l }, np, &mut table);
     boxes::weld_param_box(
         vertices,
         triangles,

@@ -1,4 +1,2 @@
--- The cases of the definitions, as the code's branches meet them, and the laws of tables.
+-- The cases of the definitions, as the code's branches meet them.
 pub mod Cases
-pub mod Surfaces
-pub mod Tables

@@ -1,4 +1,2 @@
 -- What the contracts of `points` cite beside the definitions of `soups`.
 pub mod Pieces
-pub mod Within
-pub mod Turns

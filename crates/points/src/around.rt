@@ -6,13 +6,6 @@ ghost use Rattle.points.specs.Pieces as Pieces;
 use math::Vec3;
 use trig::SinCos;
 
-// A point in cylindrical coordinates: the radius x, the sine and cosine of the angle, the height z.
-pub struct Polar {
-    pub t: SinCos,
-    pub x: f64,
-    pub z: f64,
-}
-
 // (x * cos, x * sin, z).
 pub fn cylindrical_by(t: SinCos, x: f64, z: f64) -> Vec3
     ensures { λ r. ⌜ r ≡ Pieces.cylindricalBy t x z ⌝ }

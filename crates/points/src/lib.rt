@@ -4,8 +4,6 @@ mod around;
 mod axis;
 mod ball;
 mod side;
-mod surface;
-mod turns;
 
 pub use arc::arc_segments;
 pub use arc::larger;
@@ -25,8 +23,3 @@ pub use side::angle;
 pub use side::height;
 pub use side::plane_point;
 pub use side::spun;
-pub use surface::surface_point;
-pub use turns::Turns;
-pub use turns::entry;
-pub use turns::fill_turns;
-pub use turns::turn_at;

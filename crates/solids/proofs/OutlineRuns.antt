@@ -24,7 +24,7 @@ use Rattle.outline.proofs.Copies.{length-reversed, length-swapped}
 use Rattle.clipper.specs.Triangulate.{State, triangulatePolygon}
 use Rattle.clipper.specs.declared.Cut.{Cut}
 use Rattle.clipper.specs.Slices.{Gives}
-use Rattle.points.specs.Within.{ExtrudedWithin, RotatedWithin}
+use Rattle.surfaces.specs.Within.{ExtrudedWithin, RotatedWithin}
 use Rattle.soups.proofs.ArcLaws.{arcSegments-some, arcSegments-few}
 use Rattle.weld.specs.Rep.{Held, Ready, Runs}
 use Rattle.weld.specs.Runs.{runs-none, runs-then, runs-as}

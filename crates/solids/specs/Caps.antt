@@ -6,8 +6,8 @@ use lib.Ieee.{Float}
 use Rattle.ieee.specs.Number.{tau}
 use Rattle.balance.specs.Soup.{Tri, mapTri, flip}
 use Rattle.soups.specs.declared.Surface.{Surface}
-use Rattle.points.specs.Within.{Within}
-use Rattle.points.specs.Turns.{Tabled}
+use Rattle.surfaces.specs.Within.{Within}
+use Rattle.surfaces.specs.Turns.{Tabled}
 
 -- what the code asks of a surface to compute the points of a cap, which lie at j
 abbrev pub CapsWithin : List Float → Surface → List Float → List Float → ℕ → Type 0

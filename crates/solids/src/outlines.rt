@@ -12,7 +12,7 @@ ghost use Rattle.soups.specs.Surface.{surfaceAt};
 ghost use Rattle.soups.specs.Outline as Outline;
 ghost use Rattle.soups.specs.Polygons as Polygons;
 ghost use Rattle.solids.specs.Caps.{CapsWithin, capOf, capsOf, turnSpan};
-use points::Turns;
+use surfaces::Turns;
 use soups::Surface;
 use weld::Welder;
 
@@ -41,14 +41,14 @@ fn weld_cap(
         (held w (now (vertices .entry)) (now (triangles .entry)) (now (work .entry)))
         (held r (now (vertices .exit)) (now (triangles .exit)) (now (work .exit))) ⌝ }
 {
-    let an = points::surface_point(s, corners, rows, cols, a, near);
-    let bn = points::surface_point(s, corners, rows, cols, b, near);
-    let cn = points::surface_point(s, corners, rows, cols, c, near);
+    let an = surfaces::surface_point(s, corners, rows, cols, a, near);
+    let bn = surfaces::surface_point(s, corners, rows, cols, b, near);
+    let cn = surfaces::surface_point(s, corners, rows, cols, c, near);
     let u = weld::weld_triangle(vertices, triangles, work, w, an, bn, cn);
     if both {
-        let af = points::surface_point(s, corners, rows, cols, a, far);
-        let cf = points::surface_point(s, corners, rows, cols, c, far);
-        let bf = points::surface_point(s, corners, rows, cols, b, far);
+        let af = surfaces::surface_point(s, corners, rows, cols, a, far);
+        let cf = surfaces::surface_point(s, corners, rows, cols, c, far);
+        let bf = surfaces::surface_point(s, corners, rows, cols, b, far);
         return weld::weld_triangle(vertices, triangles, work, u, af, cf, bf);
     }
     u
@@ -256,7 +256,7 @@ fn weld_rotated_from(
         span,
         n,
     };
-    points::fill_turns(t, n, &mut cols);
+    surfaces::fill_turns(t, n, &mut cols);
     let u = grids::weld_grid(
         vertices,
         triangles,

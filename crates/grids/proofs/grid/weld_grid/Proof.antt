@@ -8,7 +8,7 @@ use Rattle.weld.specs.Rep.{held, Runs}
 use Rattle.weld.specs.Runs.{runs-as}
 use Rattle.soups.specs.Grid.{grid}
 use Rattle.soups.specs.Surface.{surfaceAt}
-use Rattle.points.proofs.Surfaces.{within-less, tabled-less}
+use Rattle.surfaces.proofs.Surfaces.{within-less, tabled-less}
 use Rattle.grids.proofs.Cells.{grid-none, grid-more}
 use Rattle.grids.proofs.grid.weld_grid.Statement.{statement}
 use Rattle.grids.proofs.grid.weld_grid.Tie as tie

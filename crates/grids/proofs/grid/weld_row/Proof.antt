@@ -10,7 +10,7 @@ use Rattle.weld.specs.Rep.{held, Runs}
 use Rattle.weld.specs.Runs.{runs-as}
 use Rattle.soups.specs.Grid.{row}
 use Rattle.soups.specs.Surface.{surfaceAt}
-use Rattle.points.proofs.Surfaces.{within-less, tabled-less}
+use Rattle.surfaces.proofs.Surfaces.{within-less, tabled-less}
 use Rattle.grids.proofs.Cells.{row-none, row-more}
 use Rattle.grids.proofs.grid.weld_row.Statement.{statement}
 use Rattle.grids.proofs.grid.weld_row.Tie as tie

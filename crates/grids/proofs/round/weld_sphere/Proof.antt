@@ -1,7 +1,7 @@
 -- `grids::round::weld_sphere` meets its contract. Assumes nothing.
 use Rattle.grids.proofs.RoundRuns.{sphere-within, sphere-none, sphere-runs}
 use lib.Ieee.{ofBits}
-use Rattle.points.proofs.Surfaces.{sphere-tabled}
+use Rattle.surfaces.proofs.Surfaces.{sphere-tabled}
 use borrow.Author.Needs.{needs}
 use native.Mathlib.Omega.{arith}
 use Rattle.grids.proofs.round.weld_sphere.Statement.{statement}

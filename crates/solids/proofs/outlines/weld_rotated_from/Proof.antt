@@ -8,7 +8,7 @@ use lib.ListN.{length}
 use lib.Seq.{length-take-le}
 use Rattle.soups.specs.Arc.{arcSegments}
 use Rattle.soups.specs.Boxes.{isFull}
-use Rattle.points.proofs.Tables.{filled-less}
+use Rattle.surfaces.proofs.Tables.{filled-less}
 use Rattle.grids.proofs.BoxRuns.{arc-few, arc-some}
 use Rattle.solids.proofs.OutlineRuns.{caps-front, rotated-within, rotated-none, rotated-full, rotated-part}
 use Rattle.solids.proofs.outlines.weld_rotated_from.Statement.{statement}

@@ -2,10 +2,10 @@
 use denote.Ref.{now}
 use mathlib.Core.Path.{_∙_}
 use Rattle.soups.specs.ParamBox.{facePoint}
-use Rattle.points.proofs.Surfaces.{face-plain, face-cylindrical, face-around, chart-tabled}
+use Rattle.surfaces.proofs.Surfaces.{face-plain, face-cylindrical, face-around, chart-tabled}
 use borrow.Author.Needs.{needs}
-use Rattle.points.proofs.surface.face_at.Statement.{statement}
-use Rattle.points.proofs.surface.face_at.Tie as tie
+use Rattle.surfaces.proofs.surface.face_at.Statement.{statement}
+use Rattle.surfaces.proofs.surface.face_at.Tie as tie
 
 enum-told : tie.Need-enum-told
 enum-told c = search needs

@@ -1,10 +1,10 @@
 -- `points::turns::turn_at` meets its contract. Assumes nothing.
-use Rattle.points.proofs.Tables.{turns-as, turn-as, turn-latitude, turn-longitude, turn-on-line, turn-angle}
+use Rattle.surfaces.proofs.Tables.{turns-as, turn-as, turn-latitude, turn-longitude, turn-on-line, turn-angle}
 use Rattle.trig.specs.Trig.{sinCos}
 use mathlib.Core.Path.{_∙_, ap}
 use borrow.Author.Needs.{needs}
-use Rattle.points.proofs.turns.turn_at.Statement.{statement}
-use Rattle.points.proofs.turns.turn_at.Tie as tie
+use Rattle.surfaces.proofs.turns.turn_at.Statement.{statement}
+use Rattle.surfaces.proofs.turns.turn_at.Tie as tie
 
 enum-known-t : tie.Need-enum-known-t
 enum-known-t c = search needs

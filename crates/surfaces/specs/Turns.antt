@@ -14,8 +14,8 @@ use Rattle.soups.specs.declared.Surface.the-variants.{Face, Sphere, Extruded, R
 use Rattle.soups.specs.Sphere.{latitude, longitude}
 use Rattle.soups.specs.Outline.{angle}
 use Rattle.soups.specs.Surface.{lineAt}
-use Rattle.points.specs.declared.turns.Turns.{Turns}
-use Rattle.points.specs.declared.turns.Turns.the-variants.{Latitudes, Longitudes, OnLine, Angles}
+use Rattle.surfaces.specs.declared.turns.Turns.{Turns}
+use Rattle.surfaces.specs.declared.turns.Turns.the-variants.{Latitudes, Longitudes, OnLine, Angles}
 
 -- the sine and cosine number k of a kind: of a sphere's row or segment, of an axis that is an angle, of a rotated outline's step
 unfoldable pub turnAt : Turns → ℕ → SinCos

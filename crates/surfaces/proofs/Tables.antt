@@ -15,9 +15,9 @@ use Rattle.soups.specs.declared.Line.{Line}
 use Rattle.soups.specs.Sphere.{latitude, longitude}
 use Rattle.soups.specs.Outline.{angle}
 use Rattle.soups.specs.Surface.{lineAt}
-use Rattle.points.specs.declared.turns.Turns.{Turns}
-use Rattle.points.specs.declared.turns.Turns.the-variants.{Latitudes, Longitudes, OnLine, Angles}
-use Rattle.points.specs.Turns.{turnAt, TurnsWithin, entry, Filled}
+use Rattle.surfaces.specs.declared.turns.Turns.{Turns}
+use Rattle.surfaces.specs.declared.turns.Turns.the-variants.{Latitudes, Longitudes, OnLine, Angles}
+use Rattle.surfaces.specs.Turns.{turnAt, TurnsWithin, entry, Filled}
 
 -- the entries below k are those of f
 abbrev pub Entries : (ℕ → SinCos) → ℕ → List Float → Type 0

@@ -1,9 +1,9 @@
 -- `points::surface::surface_point` meets its contract. Assumes nothing.
-use Rattle.points.proofs.Surfaces.{within-as, tabled-as, point-as, on-face, on-sphere, on-extruded, on-rotated}
+use Rattle.surfaces.proofs.Surfaces.{within-as, tabled-as, point-as, on-face, on-sphere, on-extruded, on-rotated}
 use mathlib.Core.Path.{_∙_}
 use borrow.Author.Needs.{needs}
-use Rattle.points.proofs.surface.surface_point.Statement.{statement}
-use Rattle.points.proofs.surface.surface_point.Tie as tie
+use Rattle.surfaces.proofs.surface.surface_point.Statement.{statement}
+use Rattle.surfaces.proofs.surface.surface_point.Tie as tie
 
 enum-known-s : tie.Need-enum-known-s
 enum-known-s c = search needs

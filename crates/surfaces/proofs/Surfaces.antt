@@ -19,14 +19,15 @@ use Rattle.soups.specs.Coords.{cylindricalToCartesian}
 use Rattle.soups.specs.Cylinder.{aroundAxis}
 use Rattle.soups.specs.Sphere.{spherePoint, onSphere}
 use Rattle.soups.specs.Surface.{mapped, lineAt, surfaceAt}
-use Rattle.points.specs.declared.around.Polar.{Polar}
-use Rattle.points.specs.declared.turns.Turns.{Turns}
-use Rattle.points.specs.declared.turns.Turns.the-variants.{Latitudes, Longitudes, OnLine, Angles}
-use Rattle.points.specs.Pieces.{turned, cylindricalBy, aroundAxisBy, polarOn, onFace, onExtruded, onRotated}
-use Rattle.points.specs.Within.{FaceWithin, SphereWithin, ExtrudedWithin, RotatedWithin, Within}
-use Rattle.points.specs.Turns.{turnAt, entry, Filled, RoundTabled, Tabled}
+use Rattle.surfaces.specs.declared.surface.Polar.{Polar}
+use Rattle.surfaces.specs.declared.turns.Turns.{Turns}
+use Rattle.surfaces.specs.declared.turns.Turns.the-variants.{Latitudes, Longitudes, OnLine, Angles}
+use Rattle.points.specs.Pieces.{turned, cylindricalBy, aroundAxisBy}
+use Rattle.surfaces.specs.Pieces.{polarOn, onFace, onExtruded, onRotated}
+use Rattle.surfaces.specs.Within.{FaceWithin, SphereWithin, ExtrudedWithin, RotatedWithin, Within}
+use Rattle.surfaces.specs.Turns.{turnAt, entry, Filled, RoundTabled, Tabled}
 use Rattle.points.proofs.Cases.{face-0, face-1, face-2}
-use Rattle.points.proofs.Tables.{turn-latitude, turn-longitude, turn-on-line, turn-angle, filled-less}
+use Rattle.surfaces.proofs.Tables.{turn-latitude, turn-longitude, turn-on-line, turn-angle, filled-less}
 
 -- the last entry of a table
 pub last-entry : {t : Turns} {n : ℕ} {tab : List Float} → Filled t n tab → entry tab n ≡ turnAt t n

@@ -1,8 +1,8 @@
 -- `points::surface::polar_at` meets its contract. Assumes nothing.
-use Rattle.points.proofs.Surfaces.{round-rows, round-cols, polar-0, polar-1, polar-2}
+use Rattle.surfaces.proofs.Surfaces.{round-rows, round-cols, polar-0, polar-1, polar-2}
 use borrow.Author.Needs.{needs}
-use Rattle.points.proofs.surface.polar_at.Statement.{statement}
-use Rattle.points.proofs.surface.polar_at.Tie as tie
+use Rattle.surfaces.proofs.surface.polar_at.Statement.{statement}
+use Rattle.surfaces.proofs.surface.polar_at.Tie as tie
 
 entry-requires : tie.Need-entry-requires
 entry-requires c κs = round-rows _ _ _ _ _ _ _ (c .if1 .taken) (c .before .before .before .pre .1) .long

@@ -2,8 +2,8 @@
 use mathlib.Core.Path.{sym}
 use native.Mathlib.Nat.{mod-eq-of-lt}
 use borrow.Author.Needs.{needs}
-use Rattle.points.proofs.surface.round.Statement.{statement}
-use Rattle.points.proofs.surface.round.Tie as tie
+use Rattle.surfaces.proofs.surface.round.Statement.{statement}
+use Rattle.surfaces.proofs.surface.round.Tie as tie
 
 rem-result : tie.Need-rem-result
 rem-result c = search needs

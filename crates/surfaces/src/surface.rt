@@ -4,14 +4,9 @@ ghost use Prim.Native.Nat.{_*_, _%_, _≤_, _<_};
 ghost use lib.ListN.{length};
 ghost use Rattle.soups.specs.declared.Surface.the-variants.{Face};
 ghost use Rattle.soups.specs.Surface.{surfaceAt};
-ghost use Rattle.points.specs.Within.{FaceWithin, ExtrudedWithin, Within};
-ghost use Rattle.points.specs.Turns.{RoundTabled, Tabled};
-ghost use Rattle.points.specs.Pieces as Pieces;
-use crate::around;
-use crate::around::Polar;
-use crate::axis;
-use crate::ball;
-use crate::side;
+ghost use Rattle.surfaces.specs.Within.{FaceWithin, ExtrudedWithin, Within};
+ghost use Rattle.surfaces.specs.Turns.{RoundTabled, Tabled};
+ghost use Rattle.surfaces.specs.Pieces as Pieces;
 use crate::turns;
 use math::Vec3;
 use outline::Point;
@@ -19,6 +14,13 @@ use soups::Chart;
 use soups::Line;
 use soups::Surface;
 use trig::SinCos;
+
+// A point in cylindrical coordinates: the radius x, the sine and cosine of the angle, the height z.
+pub struct Polar {
+    pub t: SinCos,
+    pub x: f64,
+    pub z: f64,
+}
 
 // i % len, with no division where i is below len.
 fn round(i: usize, len: usize) -> usize
@@ -47,18 +49,18 @@ fn polar_at(
         Polar {
             t: turns::entry(rows, i),
             x: val,
-            z: axis::line_at(v, j),
+            z: points::line_at(v, j),
         }
     } else if k == 1 {
         Polar {
             t: trig::sin_cos(val),
-            x: axis::line_at(v, j),
-            z: axis::line_at(u, i),
+            x: points::line_at(v, j),
+            z: points::line_at(u, i),
         }
     } else {
         Polar {
             t: turns::entry(cols, j),
-            x: axis::line_at(u, i),
+            x: points::line_at(u, i),
             z: val,
         }
     }
@@ -80,14 +82,14 @@ fn face_at(
     ensures { λ r. ⌜ r ≡ Pieces.onFace chart k val u v i j ⌝ }
 {
     match chart {
-        Chart::Cartesian => axis::face_point(k, val, axis::line_at(u, i), axis::line_at(v, j)),
+        Chart::Cartesian => points::face_point(k, val, points::line_at(u, i), points::line_at(v, j)),
         Chart::Cylindrical => {
             let p = polar_at(k, val, u, v, rows, cols, i, j);
-            around::cylindrical_by(p.t, p.x, p.z)
+            points::cylindrical_by(p.t, p.x, p.z)
         }
         Chart::Around { a, d, e1, e2 } => {
             let p = polar_at(k, val, u, v, rows, cols, i, j);
-            around::around_axis_by(a, d, e1, e2, p.t, p.x, p.z)
+            points::around_axis_by(a, d, e1, e2, p.t, p.x, p.z)
         }
     }
 }
@@ -97,7 +99,7 @@ fn extruded_at(corners: &[f64], n: usize, len: usize, lo: f64, hi: f64, i: usize
     ensures { λ r. ⌜ r ≡ Pieces.onExtruded (now (corners .entry)) n len lo hi i j ⌝ }
 {
     let c = outline::corner(corners, round(i, len));
-    side::plane_point(n, c, side::height(lo, hi, j))
+    points::plane_point(n, c, points::height(lo, hi, j))
 }
 
 fn rotated_at(corners: &[f64], a: usize, q: usize, len: usize, t: SinCos, i: usize) -> Vec3
@@ -105,7 +107,7 @@ fn rotated_at(corners: &[f64], a: usize, q: usize, len: usize, t: SinCos, i: usi
     ensures { λ r. ⌜ r ≡ Pieces.onRotated (now (corners .entry)) a q len t i ⌝ }
 {
     let c = outline::corner(corners, round(i, len));
-    side::spun(a, q, c, t)
+    points::spun(a, q, c, t)
 }
 
 // The point (i, j). rows has the sines and cosines that go by i, cols those that go by j.
@@ -130,7 +132,7 @@ pub fn surface_point(
             v,
         } => face_at(chart, k, val, u, v, rows, cols, i, j),
         Surface::Sphere { c, r, nt, np } => {
-            ball::on_sphere(c, r, turns::entry(rows, i), turns::entry(cols, j))
+            points::on_sphere(c, r, turns::entry(rows, i), turns::entry(cols, j))
         }
         Surface::Extruded { n, len, lo, hi } => extruded_at(corners, n, len, lo, hi, i, j),
         Surface::Rotated {

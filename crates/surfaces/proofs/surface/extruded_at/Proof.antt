@@ -3,11 +3,11 @@ use mathlib.Core.Path.{_∙_}
 use denote.Ref.{now}
 use Rattle.outline.specs.Corners.{point}
 use Rattle.soups.specs.Outline.{planePoint}
-use Rattle.points.specs.Pieces.{onExtruded}
-use Rattle.points.proofs.Surfaces.{round-within}
+use Rattle.surfaces.specs.Pieces.{onExtruded}
+use Rattle.surfaces.proofs.Surfaces.{round-within}
 use borrow.Author.Needs.{needs}
-use Rattle.points.proofs.surface.extruded_at.Statement.{statement}
-use Rattle.points.proofs.surface.extruded_at.Tie as tie
+use Rattle.surfaces.proofs.surface.extruded_at.Statement.{statement}
+use Rattle.surfaces.proofs.surface.extruded_at.Tie as tie
 
 round-requires : tie.Need-round-requires
 round-requires c κs = search needs

@@ -5,10 +5,10 @@ use Prim.Native.Nat.{ℕ, _+_, _-_, _≤_}
 use native.Mathlib.Omega.{arith}
 use borrow.Author.Count.{below-none}
 use lib.ListN.{length, length-set}
-use Rattle.points.specs.Turns.{turnAt, entry}
-use Rattle.points.proofs.Tables.{Entries, entries-more, turns-less}
-use Rattle.points.proofs.turns.fill_entries.Statement.{statement}
-use Rattle.points.proofs.turns.fill_entries.Tie as tie
+use Rattle.surfaces.specs.Turns.{turnAt, entry}
+use Rattle.surfaces.proofs.Tables.{Entries, entries-more, turns-less}
+use Rattle.surfaces.proofs.turns.fill_entries.Statement.{statement}
+use Rattle.surfaces.proofs.turns.fill_entries.Tie as tie
 
 abbrev Inv-loop : tie.InvT-loop
 Inv-loop t n table₀ k₀ table k = (k ≤ n + 1) × (length table ≡ length table₀) × Entries (turnAt t) k table

@@ -2,10 +2,7 @@
 ghost use mathlib.Core.Path.{_≡_};
 ghost use Prim.Native.Nat.{_+_, _*_, _≤_};
 ghost use lib.ListN.{length};
-ghost use Rattle.points.specs.Turns.{turnAt, TurnsWithin, entry as entry·, Filled};
-use crate::axis;
-use crate::ball;
-use crate::side;
+ghost use Rattle.surfaces.specs.Turns.{turnAt, TurnsWithin, entry as entry·, Filled};
 use soups::Line;
 use trig::SinCos;
 
@@ -34,15 +31,15 @@ pub fn turn_at(t: Turns, k: usize) -> SinCos
     ensures { λ r. ⌜ r ≡ turnAt t k ⌝ }
 {
     match t {
-        Turns::Latitudes { nt } => ball::latitude(nt, k),
-        Turns::Longitudes { np } => ball::longitude(np, k),
-        Turns::OnLine { l } => trig::sin_cos(axis::line_at(l, k)),
+        Turns::Latitudes { nt } => points::latitude(nt, k),
+        Turns::Longitudes { np } => points::longitude(np, k),
+        Turns::OnLine { l } => trig::sin_cos(points::line_at(l, k)),
         Turns::Angles {
             full,
             start,
             span,
             n,
-        } => trig::sin_cos(side::angle(full, start, span, n, k)),
+        } => trig::sin_cos(points::angle(full, start, span, n, k)),
     }
 }
 
