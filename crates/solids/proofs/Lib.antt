@@ -1,6 +1,2 @@
--- The soups that the functions weld, put together from their pieces; and that the caps of an outline name its corners.
-pub mod Numbers
-pub mod CapRuns
-pub mod OutlineRuns
-pub mod PartRuns
+-- The soups of single solids, from the soups that were welded.
 pub mod ShapeRuns

@@ -19,7 +19,7 @@ use Rattle.outline.specs.declared.Axes.{Axes}
 use Rattle.outline.specs.Axes.{planeAxes}
 use Rattle.shape.specs.declared.Shape.{Shape}
 use Rattle.shape.specs.declared.TessellationOptions.{TessellationOptions}
-use Rattle.solids.specs.Parts.{PartsRun}
+use Rattle.parts.specs.Parts.{PartsRun}
 use Rattle.outcome.specs.Solid.{partsOf}
 use Rattle.solids.specs.Limits.{Listed}
 
@@ -84,18 +84,6 @@ module _ (normal a : ℕ) (v : List Float) (start stop : Float) (segments : ℕ)
 
   pub rot-normal : (h : Held) → Ready h → 3 ≤ normal → Runs (rotPolySoup normal a v start stop segments) h h
   rot-normal h R e = runs-as (rot-is false (ltb a 3) (eqb normal a) (le-ltb normal 3 e) refl refl) (runs-none h R)
-
--- the corners are swapped unless the axes are equal
-pub swaps-not : (a normal u q : ℕ) (x : Axes) → x ≡ planeAxes normal → u ≡ x .u → q ≡ radialAxis a normal → u ≡ q → false ≡ swaps a normal
-unfolding swaps
-swaps-not a normal u q x e f g h =
-    let d : planeAxes normal .u ≡ radialAxis a normal = sym (ap (λ (y : Axes). y .u) e) ∙ sym f ∙ h ∙ g in
-    ap not (sym (eq-eqb (planeAxes normal .u) (radialAxis a normal) d))
-
-pub swaps-so : (a normal u q : ℕ) (x : Axes) → x ≡ planeAxes normal → u ≡ x .u → q ≡ radialAxis a normal → (u ≡ q → ⊥) → true ≡ swaps a normal
-unfolding swaps
-swaps-so a normal u q x e f g h =
-    ap not (sym (ne-eqb (planeAxes normal .u) (radialAxis a normal) (λ d. h (f ∙ ap (λ (y : Axes). y .u) e ∙ d ∙ sym g))))
 
 -- a shape of which the case is known
 pub shape-as : (cylindrical : Bool) (s t : Shape) (v : List Float) (o : TessellationOptions) (h k : Held) → s ≡ t → PartsRun (partsOf cylindrical t v o) h k

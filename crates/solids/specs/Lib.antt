@@ -1,5 +1,2 @@
--- What the contracts of `solids` cite beside the definitions of `soups`; and the laws of parts.
-pub mod Caps
-pub mod Parts
-pub mod PartsLaws
+-- What the contract of `solids` asks of a shape and its list.
 pub mod Limits

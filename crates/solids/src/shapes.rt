@@ -1,10 +1,9 @@
 // The match of tessellate in src/tessellate.rs.
 ghost use mathlib.Core.Path.{_≡_};
 ghost use Rattle.weld.specs.Rep.{held, Ready};
-ghost use Rattle.solids.specs.Parts.{PartsRun};
+ghost use Rattle.parts.specs.Parts.{PartsRun};
 ghost use Rattle.outcome.specs.Solid.{partsOf};
 ghost use Rattle.solids.specs.Limits.{Bounded, Listed};
-use crate::parts;
 use crate::solid;
 use shape::Shape;
 use shape::TessellationOptions;

@@ -6,7 +6,6 @@ ghost use Rattle.weld.specs.Rep.{held, Ready, Runs};
 ghost use Rattle.soups.specs.Sphere.{sphereSoup};
 ghost use Rattle.soups.specs.Cylinder.{cylinderSoup, cylindricalShellSoup};
 ghost use Rattle.soups.specs.Polygons as Polygons;
-use crate::outlines;
 use math::Vec3;
 use weld::Welder;
 
@@ -120,7 +119,7 @@ pub fn weld_polygon(
         (held k (now (vertices .exit)) (now (triangles .exit)) (now (work .exit))) ⌝ }
 {
     let n = direction(normal);
-    outlines::weld_extruded(vertices, triangles, work, w, n, list, elevation, elevation)
+    sweeps::weld_extruded(vertices, triangles, work, w, n, list, elevation, elevation)
 }
 
 pub fn weld_lin_poly(
@@ -143,7 +142,7 @@ pub fn weld_lin_poly(
     let end = elevation + height;
     let lo = ieee::min(elevation, end);
     let hi = ieee::max(elevation, end);
-    outlines::weld_extruded(vertices, triangles, work, w, n, list, lo, hi)
+    sweeps::weld_extruded(vertices, triangles, work, w, n, list, lo, hi)
 }
 
 pub fn weld_rot_poly(
@@ -167,7 +166,7 @@ pub fn weld_rot_poly(
     if normal < 3 {
         if axis < 3 {
             if normal != axis {
-                return outlines::weld_rotated(
+                return sweeps::weld_rotated(
                     vertices,
                     triangles,
                     work,

@@ -19,7 +19,7 @@ use Rattle.shape.specs.declared.TessellationOptions.{TessellationOptions}
 use Rattle.shape.specs.Drawing.{badList, itemFloats}
 use Rattle.shape.specs.DrawingLaws.{corners-whole}
 use Rattle.solids.specs.Limits.{Bounded, Listed}
-use Rattle.solids.specs.Parts.{PartsRun}
+use Rattle.parts.specs.Parts.{PartsRun}
 use Rattle.weld.specs.declared.Welder.{Welder}
 use Rattle.weld.specs.Rep.{Held, held, placesOf, Ready, Holds, Over, Rep, Begun}
 use Rattle.weld.specs.Runs.{Fits, holds-fits}

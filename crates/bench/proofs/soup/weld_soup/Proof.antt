@@ -6,7 +6,7 @@ use Prim.Native.Nat.{_*_, _/_, _≤_}
 use native.Mathlib.Omega.{arith}
 use lib.ListN.{length}
 use Rattle.weld.specs.Rep.{held}
-use Rattle.solids.specs.PartsLaws.{parts-one}
+use Rattle.parts.specs.PartsLaws.{parts-one}
 use Rattle.tessellate.proofs.Welding.{work-zero, work-enough, parts-welded}
 use Rattle.bench.specs.Soups.{soupOf}
 use borrow.Author.Needs.{needs}

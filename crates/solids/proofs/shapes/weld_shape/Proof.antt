@@ -1,6 +1,6 @@
 -- `solids::shapes::weld_shape` meets its contract. Assumes nothing.
 use borrow.Author.Needs.{needs}
-use Rattle.solids.specs.PartsLaws.{parts-one}
+use Rattle.parts.specs.PartsLaws.{parts-one}
 use Rattle.outcome.specs.Solid.{partsOf}
 use Rattle.solids.proofs.ShapeRuns.{shape-as, listed-as}
 use Rattle.solids.proofs.shapes.weld_shape.Statement.{statement}

@@ -1,0 +1,2 @@
+-- Laws that the proofs of `parts` use.
+pub mod PartRuns

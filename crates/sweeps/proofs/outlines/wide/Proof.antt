@@ -1,0 +1,13 @@
+-- `sweeps::outlines::wide` meets its contract. Assumes nothing.
+use borrow.Author.Needs.{needs}
+use Rattle.sweeps.proofs.outlines.wide.Statement.{statement}
+use Rattle.sweeps.proofs.outlines.wide.Tie as tie
+
+returns : tie.Need-returns
+returns c = search needs
+
+pub wide-spec : {M : Type 1} → statement M
+wide-spec =
+    tie.close
+    (tie.spec
+    returns)

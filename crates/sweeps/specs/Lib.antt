@@ -1,0 +1,2 @@
+-- What the contracts of `sweeps` cite.
+pub mod Caps
