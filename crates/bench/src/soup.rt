@@ -78,7 +78,7 @@ fn weld_soup(soup: &[f64], vertices: &mut [f64], triangles: &mut [u32], work: &m
     requires { ⌜ shortWork (length (now vertices)) (length (now work)) ≡ false ⌝ }
     ensures { λ w. ⌜ Welded (soupOf (now (soup .entry)) ∷ []) w (now (vertices .exit)) (now (triangles .exit)) ⌝ }
 {
-    fill::clear_numbers(work, 0);
+    slices::clear_numbers(work, 0);
     let b = weld::begin(vertices, work);
     weld::new_part(weld_each(vertices, triangles, work, b, soup))
 }

@@ -42,4 +42,5 @@ pub head-is : (b : List ℕ) {w0 w1 w2 w3 w4 w5 w6 w7 w8 w9 : ℕ}
     → w9 ≡ wordAt b 44
     → withWords b w0 w1 w2 w3 w4 w5 w6 w7 w8 w9 ≡ headOf b
 unfolding headOf
-head-is b e0 e1 e2 e3 e4 e5 e6 e7 e8 e9 = cc
+head-is b e0 e1 e2 e3 e4 e5 e6 e7 e8 e9 i =
+    withWords b (e0 i) (e1 i) (e2 i) (e3 i) (e4 i) (e5 i) (e6 i) (e7 i) (e8 i) (e9 i)

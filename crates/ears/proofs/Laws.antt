@@ -99,6 +99,15 @@ module _ (e : Float) (a b c p : Point) where
   unfolding within
   within-first ez hz = rw (← ez, hz) (none-of (le (neg e) (cross a b p)) (le (neg e) (cross b c p)))
 
+-- ---- a test of a corner, which the code has read as p
+
+module _ (v : List Float) (o : ℕ) {p : Point} (hp : p ≡ point v o) {r u : Bool} where
+  pub within-at : (e : Float) (a b c : Point) → r ≡ within e a b c p → r ≡ u → within e a b c (point v o) ≡ u
+  within-at e a b c hr hu = ap (within e a b c) (sym hp) ∙ (sym hr ∙ hu)
+
+  pub same-at : (a : Point) → r ≡ same p a → r ≡ u → same (point v o) a ≡ u
+  same-at a hr hu = ap (λ (q : Point). same q a) (sym hp) ∙ (sym hr ∙ hu)
+
 -- ---- a corner that blocks an ear
 
 module _ (v : List Float) (e : Float) (t : Ear) (o : ℕ) where

@@ -9,8 +9,8 @@ ghost use Rattle.soups.specs.Surface.{surfaceAt};
 ghost use Rattle.soups.specs.Grid as Grid;
 ghost use Rattle.grids.specs.Cell.{turned};
 use math::Vec3;
+use quads::Quad;
 use soups::Surface;
-use weld::Quad;
 use weld::Welder;
 
 // One cell: the quad a, b, c, d, or where flip says so a, d, c, b. The last three arguments are guesses at the numbers of a, b and d.
@@ -34,7 +34,7 @@ fn weld_cell(
         (held (r .st) (now (vertices .exit)) (now (triangles .exit)) (now (work .exit))) ⌝ }
 {
     if flip {
-        let q = weld::weld_quad(vertices, triangles, work, w, a, d, c, b, na, nd, nb);
+        let q = quads::weld_quad(vertices, triangles, work, w, a, d, c, b, na, nd, nb);
         let st = q.st;
         return Quad {
             st,
@@ -44,7 +44,7 @@ fn weld_cell(
             d: q.b,
         };
     }
-    weld::weld_quad(vertices, triangles, work, w, a, b, c, d, na, nb, nd)
+    quads::weld_quad(vertices, triangles, work, w, a, b, c, d, na, nb, nd)
 }
 
 // The cells of row i. The last two points of a cell are the first two of the next. `numbers` has guesses at the numbers of the

@@ -21,7 +21,8 @@ use Rattle.trimesh.specs.Edits.{moved, transform}
 use Rattle.trimesh.specs.Slices.{points}
 use Rattle.refusal.specs.declared.Refusal.{Refusal}
 use Rattle.refusal.specs.declared.Refusal.the-variants.{Accepted, NotFinite, AngleTooLarge, BadList, PointNotFinite, NoRoom, BadMesh}
-use Rattle.mesh.specs.State.{State, meshOf, wholePlaces, every, badMesh, notFinite, checkOf, isAccepted, edited, Gives, Sound}
+use Rattle.slices.specs.Every.{wholePlaces, every}
+use Rattle.mesh.specs.State.{State, meshOf, badMesh, notFinite, checkOf, isAccepted, edited, Gives, Sound}
 use Rattle.mesh.specs.Edits.{noRoom, appendRefusal, transformed, transformRefusal}
 use Rattle.mesh.proofs.Stored.{appended-vertices, appended-triangles}
 

@@ -5,9 +5,8 @@ use mathlib.Core.List.{List, [], _∷_, map}
 use Prim.Native.Nat.{ℕ, zero, suc, _+_, _*_, _≤_, _<_}
 use native.Mathlib.Omega.{arith}
 use lib.ListN.{length, take, drop, getD}
-use lib.Seq.{getD-drop, length-take-le}
-use lib.IntN.{pos}
-use lib.Ieee.{Float, binary64, toBits, ofBits, ofInt, div}
+use lib.Seq.{length-take-le}
+use lib.Ieee.{Float, binary64, toBits}
 use Rattle.math.specs.declared.Vec3.{Vec3}
 use Rattle.math.specs.declared.BoundingBox.{BoundingBox}
 use Rattle.math.specs.Box.{emptyBox}
@@ -17,21 +16,18 @@ use Rattle.balance.specs.Buffer.{tris}
 use Rattle.trimesh.specs.Mesh.{Mesh}
 use Rattle.trimesh.specs.Slices.{points}
 use Rattle.trimesh.specs.SliceLaws.{length-tris}
-use Rattle.trimesh.specs.Measures.{triangleSoup, sumOf, including, plusZeroBox, boundingBox, volumeTerm, signedVolume}
+use Rattle.trimesh.specs.Measures.{triangleSoup, sumOf, including, plusZeroBox, boundingBox}
 use Rattle.refusal.specs.declared.Refusal.{Refusal}
 use Rattle.mesh.specs.declared.Measured.{Measured}
 use Rattle.mesh.specs.declared.Boxed.{Boxed}
 use Rattle.mesh.specs.State.{State, meshOf, checkOf, isAccepted, Sound}
-use Rattle.mesh.specs.Triples.{tripleAt, vertexAt, cornersOf, AllWithin}
-use Rattle.mesh.specs.Measures.{measureOf, zeroBox, boundingBoxOf}
-use Rattle.mesh.proofs.Next.{Next, next-counted, next-points}
+use Rattle.triples.specs.Triples.{tripleAt, vertexAt, cornersOf, AllWithin}
+use Rattle.mesh.specs.Measures.{measureOf, boundingBoxOf}
+use Rattle.slices.proofs.Next.{getD-next}
+use Rattle.triples.proofs.NextTriples.{next-counted, next-points}
+use Rattle.measure.specs.ZeroBox.{zeroBox}
 
 -- ---- the corners
-getD-next : {A : Type 0} (l : List A) (i : ℕ) (x d : A) → Next l i x → getD l i d ≡ x
-getD-next {A} l i x d h =
-    let e : i + 0 ≡ i = omega arith in
-    ap {B = A} (λ (n : ℕ). getD l n d) (sym e) ∙ sym (getD-drop i l 0 d) ∙ ap {B = A} (λ (r : List A). getD r 0 d) h
-
 map-agree : {A B : Type 0} (f g : A → B) (d : A) (l : List A) → ((i : ℕ) → i < length l → f (getD l i d) ≡ g (getD l i d)) → map f l ≡ map g l
 map-agree f g d [] h = refl
 map-agree {B = B} f g d (x ∷ l) h = (λ j. h 0 (omega arith) j ∷ map f l) ∙ ap {B = List B} (λ r. g x ∷ r) (map-agree f g d l (λ i k. h (suc i) (omega arith)))
@@ -91,11 +87,3 @@ module _ (s : State) (r : Refusal) (e : r ≡ checkOf s) where
       → record { refusal = r; bounds = c } ≡ boundingBoxOf s
   unfolding boundingBoxOf boundingBox meshOf
   box-done b c h v w = (λ j. record { refusal = e j; bounds = (w ∙ ap {B = BoundingBox} plusZeroBox v) j }) ∙ sym (rw (sym (ap {B = Bool} isAccepted e) ∙ h))
-
--- 6.0 is the float of 6
-pub volume-is : (m : Mesh) (v : Float) → v ≡ sumOf volumeTerm (ofBits binary64 0) (triangleSoup m) → div binary64 v (ofBits binary64 0x4018000000000000) ≡ signedVolume m
-unfolding signedVolume
-volume-is m v e = (λ j. div binary64 (e j) (six j))
-  where
-    six : ofBits binary64 0x4018000000000000 ≡ ofInt binary64 (pos 6)
-    six = unfold ofBits ofInt in refl

@@ -8,9 +8,10 @@ use lib.ListN.{length, take, getD}
 use lib.Dec.{ltb}
 use lib.Ieee.Scale.{finite}
 use borrow.Author.Tests.{ltb-true, ltb-false, lt-ltb, le-ltb, not-false}
-use Rattle.mesh.specs.State.{State, wholePlaces, every, badMesh, notFinite, Sound}
-use Rattle.mesh.specs.Affine.{FiniteVertices}
-use Rattle.mesh.proofs.Next.{every-at}
+use Rattle.slices.specs.Every.{wholePlaces, every}
+use Rattle.mesh.specs.State.{State, badMesh, notFinite, Sound}
+use Rattle.moves.specs.Affine.{FiniteVertices}
+use Rattle.slices.proofs.Next.{every-at}
 
 pub neither : (a b : Bool) → (a || b) ≡ false → (a ≡ false) × (b ≡ false)
 neither true b e = absurd (true≢false e)

@@ -18,7 +18,7 @@ use Rattle.trimesh.specs.Slices.{flatV, points, triOf, vecOf}
 use Rattle.trimesh.specs.SliceLaws.{flat-tris, flat-map, length-tris, points-tris, flatV-flat, flatV-append, flatV-points, length-points}
 use Rattle.mesh.specs.declared.TriMesh.{TriMesh}
 use Rattle.mesh.specs.State.{State, state, meshOf, stored, Sound}
-use Rattle.mesh.specs.Triples.{eachTo, movedTriple}
+use Rattle.triples.specs.Triples.{eachTo, movedTriple}
 
 abbrev counts : ℕ → ℕ → TriMesh
 counts n k = record { vertices = n; triangles = k }

@@ -12,7 +12,8 @@ use Rattle.trimesh.specs.Mesh.{Mesh, append, flip}
 use Rattle.trimesh.specs.Edits.{transform}
 use Rattle.refusal.specs.declared.Refusal.{Refusal}
 use Rattle.refusal.specs.declared.Refusal.the-variants.{Accepted, NotFinite, AngleTooLarge, BadList, PointNotFinite, NoRoom, BadMesh}
-use Rattle.mesh.specs.State.{State, meshOf, stored, placesOf, every, badMesh, notFinite, checkOf, Outcome, edited}
+use Rattle.slices.specs.Every.{placesOf, every}
+use Rattle.mesh.specs.State.{State, meshOf, stored, badMesh, notFinite, checkOf, Outcome, edited}
 
 -- 7: a mesh has more vertices or triangles than whole places, or more than 4,294,967,295 of either
 unfoldable pub noRoom : Mesh → State → Bool

@@ -1,8 +1,6 @@
 -- The definitions that the contracts of `mesh` cite, and the theorem about lists of calls.
 pub mod State
 pub mod Edits
-pub mod Triples
-pub mod Affine
 pub mod Measures
 pub mod StateLaws
 pub mod Lists

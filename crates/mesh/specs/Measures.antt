@@ -1,9 +1,9 @@
 -- The measures of a mesh in lent slices, with refusals 8 and 1 of document 01. A refused measure answers zeros. Definitions only.
 use mathlib.Core.Bool.{cond}
-use lib.Ieee.{Float, binary64, toBits, ofBits}
-use Rattle.math.specs.declared.BoundingBox.{BoundingBox}
+use lib.Ieee.{Float, binary64, toBits}
 use Rattle.trimesh.specs.Mesh.{Mesh}
 use Rattle.trimesh.specs.Measures.{signedVolume, area, enclosedVolume, boundingBox}
+use Rattle.measure.specs.ZeroBox.{zeroBox}
 use Rattle.mesh.specs.declared.Measured.{Measured}
 use Rattle.mesh.specs.declared.Boxed.{Boxed}
 use Rattle.mesh.specs.State.{State, meshOf, checkOf, isAccepted}
@@ -23,10 +23,6 @@ areaOf = measureOf area
 -- enclosed volume
 abbrev pub enclosedVolumeOf : State → Measured
 enclosedVolumeOf = measureOf enclosedVolume
-
--- the box from zero to zero
-unfoldable pub zeroBox : BoundingBox
-zeroBox = let o = ofBits binary64 0 in record { min = record { x = o; y = o; z = o }; max = record { x = o; y = o; z = o } }
 
 -- `bounding_box`
 unfoldable pub boundingBoxOf : State → Boxed

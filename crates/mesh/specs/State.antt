@@ -1,12 +1,13 @@
 -- A mesh record with its two lent slices, the mesh that they hold, and the checks 8 and 1 of document 01, "Who can be told no". Definitions only.
 use mathlib.Core.Path.{_≡_}
-use mathlib.Core.Bool.{Bool, true, false, not, _&&_, _||_, cond}
-use mathlib.Core.List.{List, [], _∷_, _++_}
-use Prim.Native.Nat.{ℕ, _*_, _/_, min, _≤_, _<_}
+use mathlib.Core.Bool.{Bool, true, false, not, _||_, cond}
+use mathlib.Core.List.{List, _++_}
+use Prim.Native.Nat.{ℕ, _*_, _≤_, _<_}
 use lib.ListN.{length, take, drop, getD}
 use lib.Dec.{ltb}
 use lib.Ieee.{Float}
 use lib.Ieee.Scale.{finite}
+use Rattle.slices.specs.Every.{wholePlaces, placesOf, every}
 use Rattle.balance.specs.Buffer.{flat, tris}
 use Rattle.trimesh.specs.Mesh.{Mesh}
 use Rattle.trimesh.specs.Slices.{flatV, points}
@@ -35,19 +36,6 @@ stored m s = record {
   vertices = flatV (m .vertices) ++ drop (3 * length (m .vertices)) (s .vertices);
   triangles = flat (m .triangles) ++ drop (3 * length (m .triangles)) (s .triangles);
 }
-
--- whole places in a length, three elements each, of which no more than 4,294,967,295 count
-unfoldable pub wholePlaces : ℕ → ℕ
-wholePlaces n = min (n / 3) 4294967295
-
--- whole places of a slice
-abbrev pub placesOf : {A : Type 0} → List A → ℕ
-placesOf l = wholePlaces (length l)
-
--- every element passes a test
-unfoldable pub every : {A : Type 0} → (A → Bool) → List A → Bool
-every k [] = true
-every k (x ∷ xs) = k x && every k xs
 
 -- 8: a count beyond its slice or above 4,294,967,295, or a triangle number at or above the vertex count
 unfoldable pub badMesh : State → Bool

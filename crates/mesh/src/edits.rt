@@ -3,9 +3,7 @@ ghost use Rattle.mesh.specs.State.{state, Gives};
 ghost use Rattle.mesh.specs.Edits.{appendOf, flipOf, transformOf};
 use crate::Edited;
 use crate::TriMesh;
-use crate::moves;
 use crate::refusals;
-use crate::writes;
 use transform::TransformOp;
 
 // Appends the other mesh, which lies in other slices: its vertices follow, and its numbers go up by the vertex count.
@@ -36,8 +34,8 @@ pub fn append(
     if !refusals::accepted(refusal) {
         return Edited { refusal, mesh };
     }
-    writes::copy(vertices, 3 * n, other_vertices, 3 * more_n);
-    writes::copy_up(triangles, 3 * k, other_triangles, 3 * more_k, n as u32);
+    moves::copy(vertices, 3 * n, other_vertices, 3 * more_n);
+    moves::copy_up(triangles, 3 * k, other_triangles, 3 * more_k, n as u32);
     Edited {
         refusal,
         mesh: TriMesh {
@@ -56,7 +54,7 @@ pub fn flip(mesh: TriMesh, vertices: &[f64], triangles: &mut [u32]) -> Edited
     if !refusals::accepted(refusal) {
         return Edited { refusal, mesh };
     }
-    writes::turn_all(triangles, k);
+    moves::turn_all(triangles, k);
     Edited { refusal, mesh }
 }
 
@@ -83,7 +81,7 @@ pub fn transform(
     let a = transform::fold(ops, op_count, degrees);
     moves::move_finite(vertices, n, a);
     if math::determinant(a) < 0.0 {
-        writes::turn_all(triangles, k);
+        moves::turn_all(triangles, k);
         return Edited { refusal, mesh };
     }
     Edited { refusal, mesh }

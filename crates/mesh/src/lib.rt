@@ -1,13 +1,9 @@
 // A mesh in lent slices: three floats a vertex, three numbers a triangle, and the two counts by value.
 // The calls edit it or measure it. Each checks the mesh first, and a refusal changes nothing.
-mod affine;
 mod checks;
 mod edits;
 mod measures;
-mod moves;
 mod refusals;
-mod sums;
-mod writes;
 
 pub use edits::append;
 pub use edits::flip;
@@ -17,11 +13,7 @@ pub use measures::area;
 pub use measures::bounding_box;
 pub use measures::enclosed_volume;
 pub use measures::signed_volume;
-pub use moves::move_all;
-pub use moves::stay_finite;
 use refusal::Refusal;
-pub use sums::volume_sum;
-pub use writes::turn_all;
 
 // The counts of a mesh.
 pub struct TriMesh {

@@ -6,7 +6,6 @@ use crate::Boxed;
 use crate::Measured;
 use crate::TriMesh;
 use crate::refusals;
-use crate::sums;
 
 // The volume that the triangles enclose, positive where they are counter-clockwise seen from outside.
 pub fn signed_volume(mesh: TriMesh, vertices: &[f64], triangles: &[u32]) -> Measured
@@ -17,10 +16,10 @@ pub fn signed_volume(mesh: TriMesh, vertices: &[f64], triangles: &[u32]) -> Meas
     if !refusals::accepted(refusal) {
         return Measured { refusal, bits: 0 };
     }
-    let x = sums::volume_sum(vertices, triangles, k) / 6.0;
+    let x = measure::volume_sum(vertices, triangles, k) / 6.0;
     Measured {
         refusal,
-        bits: sums::bits_of(x),
+        bits: measure::bits_of(x),
     }
 }
 
@@ -33,10 +32,10 @@ pub fn enclosed_volume(mesh: TriMesh, vertices: &[f64], triangles: &[u32]) -> Me
     if !refusals::accepted(refusal) {
         return Measured { refusal, bits: 0 };
     }
-    let x = ieee::abs(sums::volume_sum(vertices, triangles, k) / 6.0);
+    let x = ieee::abs(measure::volume_sum(vertices, triangles, k) / 6.0);
     Measured {
         refusal,
-        bits: sums::bits_of(x),
+        bits: measure::bits_of(x),
     }
 }
 
@@ -49,10 +48,10 @@ pub fn area(mesh: TriMesh, vertices: &[f64], triangles: &[u32]) -> Measured
     if !refusals::accepted(refusal) {
         return Measured { refusal, bits: 0 };
     }
-    let x = sums::area_sum(vertices, triangles, k);
+    let x = measure::area_sum(vertices, triangles, k);
     Measured {
         refusal,
-        bits: sums::bits_of(x),
+        bits: measure::bits_of(x),
     }
 }
 
@@ -65,11 +64,11 @@ pub fn bounding_box(mesh: TriMesh, vertices: &[f64], triangles: &[u32]) -> Boxed
     if !refusals::accepted(refusal) {
         return Boxed {
             refusal,
-            bounds: sums::zero_box(),
+            bounds: measure::zero_box(),
         };
     }
     Boxed {
         refusal,
-        bounds: sums::plus_zero(sums::box_of(vertices, n)),
+        bounds: measure::plus_zero(measure::box_of(vertices, n)),
     }
 }

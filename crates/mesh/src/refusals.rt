@@ -4,7 +4,6 @@ ghost use Rattle.mesh.specs.State.{state, checkOf, isAccepted};
 ghost use Rattle.mesh.specs.Edits.{appendRefusal, transformRefusal};
 use crate::TriMesh;
 use crate::checks;
-use crate::moves;
 use refusal::Refusal;
 use transform::TransformOp;
 
@@ -32,7 +31,7 @@ pub fn check(mesh: TriMesh, vertices: &[f64], triangles: &[u32]) -> Refusal
     if checks::bad_mesh(mesh, vertices, triangles) {
         return Refusal::BadMesh;
     }
-    if !checks::all_finite(vertices, 3 * n) {
+    if !slices::all_finite(vertices, 3 * n) {
         return Refusal::NotFinite;
     }
     Refusal::Accepted
@@ -58,16 +57,16 @@ pub fn append_refusal(
     if checks::bad_mesh(other, other_vertices, other_triangles) {
         return Refusal::BadMesh;
     }
-    if !checks::all_finite(vertices, 3 * n) {
+    if !slices::all_finite(vertices, 3 * n) {
         return Refusal::NotFinite;
     }
-    if !checks::all_finite(other_vertices, 3 * more_n) {
+    if !slices::all_finite(other_vertices, 3 * more_n) {
         return Refusal::NotFinite;
     }
-    if checks::places(vertices.len()) < n + more_n {
+    if slices::whole_places(vertices.len()) < n + more_n {
         return Refusal::NoRoom;
     }
-    if checks::places(triangles.len()) < k + more_k {
+    if slices::whole_places(triangles.len()) < k + more_k {
         return Refusal::NoRoom;
     }
     Refusal::Accepted
@@ -90,7 +89,7 @@ pub fn transform_refusal(
     if !transform::op_count_within(op_count) {
         return Refusal::BadList;
     }
-    if !checks::all_finite(vertices, 3 * n) {
+    if !slices::all_finite(vertices, 3 * n) {
         return Refusal::NotFinite;
     }
     if !transform::ops_finite(ops, op_count) {

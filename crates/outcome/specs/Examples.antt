@@ -15,7 +15,7 @@ use Rattle.transform.specs.declared.TransformOp.{TransformOp}
 use Rattle.transform.specs.declared.TransformOp.the-variants.{Scale}
 use Rattle.transform.specs.Angle.{within1000}
 use Rattle.transform.specs.Ops.{opMatrix, foldFrom, folded}
-use Rattle.transform.specs.Checks.{every as everyOp, opFinite, opsFinite, opAngleWithin, opsAnglesWithin}
+use Rattle.transform.specs.Checks.{opFinite, opsFinite, opAngleWithin, opsAnglesWithin}
 use Rattle.trimesh.specs.Mesh.{plusZeroV, samePoint, firstSight, withPoint, weldTriangle, weldSoup, fromSoup, everyFinite, append, flip, appendParts, fromParts}
 use Rattle.trimesh.specs.Edits.{moved, transform}
 use Rattle.soups.specs.Grid.{grid}
@@ -29,7 +29,7 @@ use Rattle.shape.specs.declared.OwnSystem.the-variants.{Inherited, Own}
 use Rattle.shape.specs.declared.TessellationOptions.{TessellationOptions}
 use Rattle.shape.specs.Drawing.{effectiveCs, shapeCs, cylindrical, tooManySegments, itemFloats, badList, listOf, allFinite}
 use Rattle.shape.specs.Drawing.{shapeFinite, pointWithin, pointsWithin, shapeWithin, listWithin, numbersBad, anglesBad, drawingRefusal}
-use Rattle.mesh.specs.State.{wholePlaces, every}
+use Rattle.slices.specs.Every.{wholePlaces, every}
 use Rattle.outcome.specs.Solid.{partsOf, partsFinite, solidMesh}
 use Rattle.outcome.specs.Outcome.{Job, jobParts, weldedMesh, finalMesh, shortWork, jobRefusal, badSoup, tooFewPlaces}
 use Rattle.outcome.specs.Outcome.{badVertex, isAccepted, orElse, refusalOf, Outcome, refusedAs, acceptedAs, tessellateOf}
@@ -64,7 +64,7 @@ box = boxJob origin corner Cartesian 32 [] 0
 unfoldable computed : Job → ℕ → ℕ → ℕ → Outcome
 unfolding tessellateOf refusalOf orElse isAccepted shortWork jobRefusal badSoup tooFewPlaces badVertex acceptedAs refusedAs wholePlaces every partsFinite everyFinite
     drawingRefusal tooManySegments badList numbersBad anglesBad itemFloats listOf allFinite shapeFinite vFinite pointWithin pointsWithin within1000 shapeWithin listWithin
-    opsFinite opFinite opsAnglesWithin opAngleWithin everyOp finalMesh weldedMesh jobParts partsOf solidMesh fromParts appendParts append fromSoup weldSoup weldTriangle withPoint
+    opsFinite opFinite opsAnglesWithin opAngleWithin finalMesh weldedMesh jobParts partsOf solidMesh fromParts appendParts append fromSoup weldSoup weldTriangle withPoint
     firstSight samePoint plusZeroV shapeCs effectiveCs cylindrical boxShape paramBox faces face grid facePoint withAxis coord axis vMin vMax
     folded foldFrom opMatrix scaling identity product productRow timesRows fromRows transform moved flip transformPoint along overW determinant detRows
     minimum maximum absolute isNan lt le eq ne neg add sub mul div ofInt ofBits

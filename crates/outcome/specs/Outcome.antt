@@ -32,7 +32,7 @@ use Rattle.shape.specs.declared.CoordSystem.{CoordSystem}
 use Rattle.shape.specs.declared.TessellationOptions.{TessellationOptions}
 use Rattle.shape.specs.Drawing.{cylindrical, shapeCs, pick, drawingRefusal}
 use Rattle.mesh.specs.declared.TriMesh.{TriMesh}
-use Rattle.mesh.specs.State.{wholePlaces, every}
+use Rattle.slices.specs.Every.{wholePlaces, every}
 use Rattle.outcome.specs.Solid.{partsOf, partsFinite, solidMesh}
 
 -- the arguments of `tessellate`, but for the lent slices

@@ -1,20 +1,12 @@
-// What a user draws: the shape, its coordinate system and the resolution; and the refusals that the drawing alone decides.
-ghost use mathlib.Core.Path.{_≡_};
-ghost use Rattle.shape.specs.Drawing as Drawing;
-
-mod angles;
-mod finite;
+// What a user draws: the shape, its coordinate system and the resolution. The specs say which drawings are refused; `drawing` checks them.
 mod lists;
 mod systems;
 
-pub use finite::all_finite;
-pub use lists::bad_list;
 pub use lists::item_floats;
+pub use lists::most_items;
 use math::Vec3;
-use refusal::Refusal;
 pub use systems::is_cylindrical;
 pub use systems::shape_cs;
-use transform::TransformOp;
 
 // coords.rs: enum CoordSystem.
 pub enum CoordSystem {
@@ -80,42 +72,4 @@ pub enum Shape {
     Wire {
         radius: f64,
     },
-}
-
-// Refusal 3.
-fn too_many_segments(options: TessellationOptions) -> bool
-    ensures { λ r. ⌜ r ≡ Drawing.tooManySegments options ⌝ }
-{
-    (1024 < options.segments) | (1024 < options.sphere_rings)
-}
-
-// Refusals 3, 4, 1 and 2, in this order, on the drawing and the first `op_count` operations.
-pub fn check_drawing(
-    shape: Shape,
-    list: &[f64],
-    own: OwnSystem,
-    default: CoordSystem,
-    options: TessellationOptions,
-    ops: [TransformOp; 16],
-    op_count: usize,
-    degrees: bool,
-) -> Refusal
-    ensures { λ r. ⌜ r ≡ Drawing.drawingRefusal shape (now (list .entry)) own default options ops «op_count» degrees ⌝ }
-{
-    let many = too_many_segments(options);
-    let bad = bad_list(item_floats(shape), list.len()) | (16 < op_count);
-    if many {
-        return Refusal::TooManySegments;
-    }
-    if bad {
-        return Refusal::BadList;
-    }
-    if finite::numbers_bad(shape, list, ops, op_count) {
-        return Refusal::NotFinite;
-    }
-    let cyl = is_cylindrical(shape_cs(shape, own, default));
-    if angles::angles_bad(cyl, shape, list, degrees, ops, op_count) {
-        return Refusal::AngleTooLarge;
-    }
-    Refusal::Accepted
 }

@@ -1,4 +1,4 @@
-// A shape's list: the floats of an item, and refusal 4 on the list.
+// A shape's list: the floats of an item, and the most items.
 ghost use mathlib.Core.Path.{_≡_};
 ghost use Rattle.shape.specs.Drawing as Drawing;
 use crate::Shape;
@@ -22,18 +22,8 @@ pub fn item_floats(shape: Shape) -> usize
 }
 
 // The most items of a list whose items have k floats.
-fn most_items(k: usize) -> usize
+pub fn most_items(k: usize) -> usize
     ensures { λ r. ⌜ r ≡ Drawing.mostItems k ⌝ }
 {
     if k == 2 { 512 } else { 256 }
-}
-
-// Refusal 4 on a list of n floats whose items have k floats.
-pub fn bad_list(k: usize, n: usize) -> bool
-    ensures { λ r. ⌜ r ≡ Drawing.badList k n ⌝ }
-{
-    if k == 0 {
-        return false;
-    }
-    (n % k != 0) | (most_items(k) < n / k)
 }

@@ -16,7 +16,7 @@ use Rattle.refusal.specs.Number.{numberOf}
 use Rattle.trimesh.specs.Mesh.{Mesh, fromParts}
 use Rattle.trimesh.specs.Edits.{transform}
 use Rattle.shape.specs.Drawing.{pick}
-use Rattle.mesh.specs.State.{wholePlaces, every}
+use Rattle.slices.specs.Every.{wholePlaces, every}
 use Rattle.outcome.specs.Solid.{partsFinite}
 use Rattle.outcome.specs.Outcome.{Job, jobParts, weldedMesh, finalMesh, shortWork, jobRefusal, badSoup, tooFewPlaces, badVertex, isAccepted, orElse, refusalOf}
 use Rattle.outcome.specs.Outcome.{Outcome, refusedAs, acceptedAs, tessellateOf}

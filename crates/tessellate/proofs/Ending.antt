@@ -5,7 +5,7 @@ use Prim.Native.Nat.{ℕ, _*_, _-_}
 use native.Mathlib.Omega.{arith}
 use lib.ListN.{length, take, drop, replicate}
 use lib.Ieee.{Float, binary64, ofBits}
-use Rattle.fill.specs.Cleared.{clearedFrom}
+use Rattle.slices.specs.Cleared.{clearedFrom}
 use Rattle.balance.specs.Buffer.{flat}
 use Rattle.refusal.specs.declared.Refusal.{Refusal}
 use Rattle.trimesh.specs.Mesh.{Mesh}

@@ -17,8 +17,9 @@ use Rattle.trimesh.specs.Mesh.{Mesh, flip}
 use Rattle.trimesh.specs.Edits.{moved, transform}
 use Rattle.trimesh.specs.Slices.{points}
 use Rattle.refusal.specs.declared.Refusal.the-variants.{PointNotFinite}
-use Rattle.mesh.specs.State.{State, state, meshOf, stored, every, Sound}
-use Rattle.mesh.specs.Triples.{eachTo, movedTriple}
+use Rattle.slices.specs.Every.{every}
+use Rattle.mesh.specs.State.{State, state, meshOf, stored, Sound}
+use Rattle.triples.specs.Triples.{eachTo, movedTriple}
 use Rattle.mesh.proofs.Stored.{stored-moved, stored-mirrored}
 use Rattle.outcome.specs.Outcome.{Outcome, refusedAs, acceptedAs}
 use Rattle.tessellate.specs.Steps.{movedAs, placedAs}

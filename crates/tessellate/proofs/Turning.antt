@@ -15,9 +15,10 @@ use Rattle.soups.specs.Grid.{Soup}
 use Rattle.shape.specs.declared.Shape.{Shape}
 use Rattle.shape.specs.declared.Shape.the-variants.{Box, MultiBox, Sphere, SphericalShell, Cylinder, CylindricalShell, Polygon, LinPoly, RotPoly, Wire}
 use Rattle.mesh.specs.State.{State, state, meshOf, stored, Sound}
-use Rattle.mesh.specs.Triples.{eachTo, cornersOf}
+use Rattle.triples.specs.Triples.{eachTo, cornersOf}
 use Rattle.mesh.proofs.Stored.{stored-flip}
-use Rattle.mesh.proofs.Readings.{sum-is, volume-is}
+use Rattle.mesh.proofs.Readings.{sum-is}
+use Rattle.measure.proofs.Terms.{volume-is}
 use Rattle.outcome.specs.Solid.{outward, solidMesh}
 use Rattle.tessellate.specs.Steps.{isRotPoly, turned}
 use Rattle.tessellate.proofs.Lying.{stored-self}

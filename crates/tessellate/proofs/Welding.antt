@@ -9,7 +9,7 @@ use lib.Dec.{ltb}
 use lib.Ieee.{Float}
 use native.Mathlib.Omega.{arith}
 use borrow.Author.Tests.{lt-ltb, le-ltb, ltb-false}
-use Rattle.fill.specs.Cleared.{clearedFrom}
+use Rattle.slices.specs.Cleared.{clearedFrom}
 use Rattle.trimesh.specs.Mesh.{Mesh, noMesh, append, appendParts, fromParts}
 use Rattle.trimesh.specs.WeldLaws.{append-none}
 use Rattle.soups.specs.Grid.{Soup}
@@ -23,7 +23,8 @@ use Rattle.parts.specs.Parts.{PartsRun}
 use Rattle.weld.specs.declared.Welder.{Welder}
 use Rattle.weld.specs.Rep.{Held, held, placesOf, Ready, Holds, Over, Rep, Begun}
 use Rattle.weld.specs.Runs.{Fits, holds-fits}
-use Rattle.mesh.specs.State.{state, stored, wholePlaces}
+use Rattle.slices.specs.Every.{wholePlaces}
+use Rattle.mesh.specs.State.{state, stored}
 use Rattle.outcome.specs.Solid.{partsFinite}
 use Rattle.outcome.specs.Outcome.{tooFewPlaces, shortWork}
 use Rattle.tessellate.specs.Steps.{countsOf, Drawable, Welded}

@@ -11,7 +11,7 @@ use Rattle.math.specs.Vec.{vFinite}
 use Rattle.transform.specs.declared.TransformOp.{TransformOp}
 use Rattle.transform.specs.Ops.{folded}
 use Rattle.refusal.specs.declared.Refusal.the-variants.{Accepted, PointNotFinite}
-use Rattle.fill.specs.Cleared.{clearedFrom}
+use Rattle.slices.specs.Cleared.{clearedFrom}
 use Rattle.trimesh.specs.Mesh.{Mesh, fromParts}
 use Rattle.trimesh.specs.Edits.{transform}
 use Rattle.trimesh.specs.Closed.{AllThere}
@@ -22,7 +22,8 @@ use Rattle.shape.specs.declared.Shape.the-variants.{Box, MultiBox, Sphere, Sphe
 use Rattle.shape.specs.declared.TessellationOptions.{TessellationOptions}
 use Rattle.shape.specs.Drawing.{badList, itemFloats}
 use Rattle.mesh.specs.declared.TriMesh.{TriMesh}
-use Rattle.mesh.specs.State.{State, state, meshOf, stored, every, Sound}
+use Rattle.slices.specs.Every.{every}
+use Rattle.mesh.specs.State.{State, state, meshOf, stored, Sound}
 use Rattle.outcome.specs.Solid.{partsFinite, outward}
 use Rattle.outcome.specs.Outcome.{Job, Outcome, acceptedAs, refusedAs, tooFewPlaces, shortWork, jobRefusal}
 use Rattle.tessellate.specs.declared.Tessellated.{Tessellated}

@@ -15,9 +15,9 @@ fn keep(n: usize, k: usize, vertices: &mut [f64], triangles: &mut [u32], work: &
     ensures { λ _. ⌜ Keeps n k (now (vertices .entry)) (now (triangles .entry)) (now (work .entry))
         (now (vertices .exit)) (now (triangles .exit)) (now (work .exit)) ⌝ }
 {
-    fill::clear_floats(vertices, 3 * n);
-    fill::clear_numbers(triangles, 3 * k);
-    fill::clear_numbers(work, 0);
+    slices::clear_floats(vertices, 3 * n);
+    slices::clear_numbers(triangles, 3 * k);
+    slices::clear_numbers(work, 0);
 }
 
 // Refused: counts 0, and every place of the three slices zero.

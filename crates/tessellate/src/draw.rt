@@ -32,7 +32,7 @@ fn weld_all(
     requires { ⌜ Drawable shape (now list) options × (shortWork (length (now vertices)) (length (now work)) ≡ false) ⌝ }
     ensures { λ w. ⌜ Welded (partsOf cylindrical shape (now (list .entry)) options) w (now (vertices .exit)) (now (triangles .exit)) ⌝ }
 {
-    fill::clear_numbers(work, 0);
+    slices::clear_numbers(work, 0);
     let w = weld::begin(vertices, work);
     solids::weld_shape(
         vertices,

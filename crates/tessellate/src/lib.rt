@@ -54,7 +54,16 @@ pub fn tessellate(
         r (now (vertices .exit)) (now (triangles .exit)) (now (work .exit)) ⌝ }
 {
     let short = short_work(vertices.len(), work.len());
-    let refusal = shape::check_drawing(shape, list, own, default, options, ops, op_count, degrees);
+    let refusal = drawing::check_drawing(
+        shape,
+        list,
+        own,
+        default,
+        options,
+        ops,
+        op_count,
+        degrees,
+    );
     let number = refusal::number(refusal);
     if short {
         return answers::refuse(Refusal::ShortWork, vertices, triangles, work);

@@ -21,9 +21,9 @@ fn move_mesh(counts: TriMesh, vertices: &mut [f64], triangles: &mut [u32], a: Ma
 {
     let n = counts.vertices;
     let k = counts.triangles;
-    mesh::move_all(vertices, n, a);
+    moves::move_all(vertices, n, a);
     if math::determinant(a) < 0.0 {
-        mesh::turn_all(triangles, k);
+        moves::turn_all(triangles, k);
         return;
     }
 }
@@ -43,7 +43,7 @@ fn moved(
         r (now (vertices .exit)) (now (triangles .exit)) (now (work .exit)) ⌝ }
 {
     let n = counts.vertices;
-    if !mesh::stay_finite(vertices, n, a) {
+    if !moves::stay_finite(vertices, n, a) {
         return answers::refuse(Refusal::PointNotFinite, vertices, triangles, work);
     }
     move_mesh(counts, vertices, triangles, a);

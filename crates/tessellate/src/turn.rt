@@ -32,9 +32,9 @@ pub fn turn_outward(counts: TriMesh, vertices: &[f64], triangles: &mut [u32])
         ≡ stored (outward (meshOf (state counts (now (vertices .entry)) (now (triangles .entry))))) (state counts (now (vertices .entry)) (now (triangles .entry))) ⌝ }
 {
     let k = counts.triangles;
-    let volume = mesh::volume_sum(vertices, triangles, k) / 6.0;
+    let volume = measure::volume_sum(vertices, triangles, k) / 6.0;
     if volume < 0.0 {
-        mesh::turn_all(triangles, k);
+        moves::turn_all(triangles, k);
         return;
     }
 }

@@ -13,7 +13,7 @@ use Rattle.math.specs.declared.Mat4.{Mat4}
 use Rattle.math.specs.Mat.{identity, product}
 use Rattle.transform.specs.declared.TransformOp.{TransformOp}
 use Rattle.transform.specs.Ops.{opMatrix, foldFrom, folded}
-use Rattle.transform.specs.Checks.{every}
+use Rattle.slices.specs.Every.{every}
 
 -- the first i + 1 operations
 pub take-one-more : (ops : List TransformOp) (i : ℕ) (d : TransformOp) → i < length ops → take (i + 1) ops ≡ take i ops ++ (getD ops i d ∷ [])

@@ -1,9 +1,10 @@
 -- What document 01's refusals 4, 1 and 2 ask of operations.
 use Prim.Native.Nat.{ℕ}
 use mathlib.Core.Bool.{Bool, true, _&&_}
-use mathlib.Core.List.{List, [], _∷_}
+use mathlib.Core.List.{List}
 use lib.Dec.{leb}
 use lib.Ieee.Scale.{finite}
+use Rattle.slices.specs.Every.{every}
 use Rattle.math.specs.declared.Row.{Row}
 use Rattle.math.specs.Vec.{vFinite}
 use Rattle.transform.specs.declared.TransformOp.{TransformOp}
@@ -39,11 +40,6 @@ opAngleWithin degrees (RotateZ a) = within1000 (angleRadians degrees a)
 opAngleWithin degrees (Scale s) = true
 opAngleWithin degrees (Scale3 v) = true
 opAngleWithin degrees (Matrix p q r s) = true
-
--- whether a test holds of each operation of a list
-unfoldable pub every : (TransformOp → Bool) → List TransformOp → Bool
-every f [] = true
-every f (op ∷ ops) = f op && every f ops
 
 -- refusal 1, of a list of operations
 unfoldable pub opsFinite : List TransformOp → Bool

@@ -1,7 +1,5 @@
 -- Laws that the proofs of the functions use.
-pub mod Clean
 pub mod Places
-pub mod Chains
 pub mod Point
 pub mod Triangle
 pub mod Parts

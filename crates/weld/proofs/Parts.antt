@@ -10,7 +10,7 @@ use lib.Ieee.{Float}
 use Rattle.trimesh.specs.Mesh.{Mesh, append}
 use Rattle.trimesh.specs.WeldLaws.{append-none}
 use Rattle.weld.specs.declared.Welder.{Welder}
-use Rattle.weld.specs.Hash.{latest, Chained}
+use Rattle.chain.specs.Hash.{latest, Chained}
 use Rattle.weld.specs.Rep.{limit, placesOf, held, Holds, Over, Begun, Parted}
 use Rattle.weld.proofs.Places.{places-fit}
 

@@ -13,15 +13,15 @@ use Rattle.balance.specs.Soup.{Tri, mapTri}
 use Rattle.trimesh.specs.Mesh.{Mesh, samePoint, firstSight, append}
 use Rattle.trimesh.specs.Slices.{flatV}
 use Rattle.trimesh.specs.WeldLaws.{sight-at, sight-none, with-seen, with-new, with-longer, flatV-append}
-use Rattle.weld.specs.declared.chain.Found.the-variants.{Missing}
+use Rattle.chain.specs.declared.Found.the-variants.{Missing}
 use Rattle.weld.specs.declared.Welder.{Welder}
-use Rattle.weld.specs.Points.{Clean, vertexAt, placed}
-use Rattle.weld.specs.Hash.{bucketOf, linkedIn, FirstAt, Sought}
+use Rattle.chain.specs.Points.{Clean, vertexAt, placed}
+use Rattle.chain.specs.Hash.{bucketOf, linkedIn, FirstAt, Sought}
 use Rattle.weld.specs.Rep.{Held, held, Linked, Holds, Over, Rep}
-use Rattle.weld.specs.Steps.{shut, withVertex, PointRuns, Seen}
+use Rattle.weld.specs.Steps.{shut, withVertex, PointRuns}
 use Rattle.weld.proofs.Places.{take-three, take-vertex, flatV-at, places-limit, places-long}
-use Rattle.weld.proofs.Clean.{clean-self}
-use Rattle.weld.proofs.Chains.{not-both, first-stays, first-new, chain-more}
+use Rattle.chain.proofs.Clean.{clean-self}
+use Rattle.chain.proofs.Chains.{not-both, first-stays, first-new, chain-more}
 
 -- ---- a look-up in the slice is a look-up in the part
 module _ (us ws : List Vec3) (vs : List Float) (count : ℕ) (front : flatV (us ++ ws) ≡ take (3 * count) vs) (long : length (us ++ ws) ≡ count) (p : Vec3) where
@@ -212,7 +212,3 @@ point-known w vs ws p m L l F = go (w .room) refl
           here = λ q. absurd (not-both (w .room) q e);
           stays = λ q. absurd (not-both (w .room) q e);
         }
-
--- a number that was seen is a 32-bit number
-pub seen-small : (w : Welder) (vs : List Float) (ws : List ℕ) (p : Vec3) (m : ℕ) → Linked w vs ws → Seen vs w p m → m < 2 ^ 32
-seen-small w vs ws p m L s = omega (arith, s .high, L .places, places-limit vs, L .chained .within)

@@ -1,6 +1,4 @@
--- What the contracts of `weld` cite: the points in a slice, the hash chains, what the slices hold, and one step of the welder.
-pub mod Points
-pub mod Hash
+-- What the contracts of `weld` cite: what the slices hold, one step of the welder, and the laws of a soup that was welded.
 pub mod Rep
 pub mod Steps
 pub mod Runs

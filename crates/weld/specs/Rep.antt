@@ -12,7 +12,7 @@ use Rattle.balance.specs.Buffer.{flat}
 use Rattle.trimesh.specs.Mesh.{Mesh, noMesh, append, weldSoup, everyFinite}
 use Rattle.trimesh.specs.Slices.{flatV}
 use Rattle.weld.specs.declared.Welder.{Welder}
-use Rattle.weld.specs.Hash.{Chained}
+use Rattle.chain.specs.Hash.{Chained}
 
 -- document 01, refusal 7: no more than this many vertices, nor triangles
 abbrev pub limit : ℕ

@@ -7,11 +7,10 @@ use lib.ListN.{length}
 use lib.Ieee.{Float}
 use Rattle.math.specs.declared.Vec3.{Vec3}
 use Rattle.balance.specs.Soup.{Tri}
-use Rattle.trimesh.specs.Mesh.{Mesh, samePoint, firstSight, withPoint, distinct}
+use Rattle.trimesh.specs.Mesh.{Mesh, firstSight, withPoint, distinct}
 use Rattle.weld.specs.declared.Welder.{Welder}
 use Rattle.weld.specs.declared.Welded.{Welded}
-use Rattle.weld.specs.Points.{Clean, vertexAt}
-use Rattle.weld.specs.Hash.{FirstAt}
+use Rattle.chain.specs.Hash.{FirstAt}
 use Rattle.weld.specs.Rep.{Held, held, placesOf, Linked, Ready, Rep}
 
 -- the state after a point that is not finite
@@ -70,23 +69,3 @@ pub record PointsRun (a b c : Vec3) (h k : Held) : Type 0 where
   pub wlong : length (k .work) ≡ length (h .work)
   pub finite : k .st .finite ≡ h .st .finite
   pub rep : (D S : Mesh) → Rep D S h → Rep D (weldPoints S a b c) k
-
--- vertex m is one of this part and equals p
-pub record Seen (vs : List Float) (w : Welder) (p : Vec3) (m : ℕ) : Type 0 where
-  pub low : w .base ≤ m
-  pub high : m < w .count
-  pub equal : samePoint (vertexAt vs m) p ≡ true
-
--- the points of a quad's two triangles were welded
-pub record QuadRuns (a b c d : Vec3) (h k : Held) : Type 0 where
-  pub ready : Ready k
-  pub vlong : length (k .vertices) ≡ length (h .vertices)
-  pub tlong : length (k .triangles) ≡ length (h .triangles)
-  pub wlong : length (k .work) ≡ length (h .work)
-  pub finite : k .st .finite ≡ h .st .finite
-  pub rep : (D S : Mesh) → Rep D S h → Rep D (weldPoints (weldPoints S a b c) a c d) k
-
--- a quad of which all points but c were seen was welded
-abbrev pub LastRuns : Vec3 → ℕ → ℕ → ℕ → Held → Held → Type 0
-LastRuns c na nb nd h k =
-    (a b d : Vec3) → Clean a → Clean b → Clean d → Seen (h .vertices) (h .st) a na → Seen (h .vertices) (h .st) b nb → Seen (h .vertices) (h .st) d nd → QuadRuns a b c d h k

@@ -5,7 +5,8 @@ use Prim.Native.Nat.{_≤_, _-_}
 use native.Mathlib.Omega.{arith}
 use borrow.Author.Needs.{needs}
 use lib.ListN.{length, take}
-use Rattle.transform.specs.Checks.{every, opFinite, opsFinite}
+use Rattle.slices.specs.Every.{every}
+use Rattle.transform.specs.Checks.{opFinite, opsFinite}
 use Rattle.transform.proofs.Loops.{take-most, every-one-more}
 use Rattle.transform.proofs.ops_finite.Statement.{statement}
 use Rattle.transform.proofs.ops_finite.Tie as tie

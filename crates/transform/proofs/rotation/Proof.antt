@@ -1,4 +1,7 @@
 -- `transform::rotation` meets its contract. Assumes nothing.
+use mathlib.Core.Path.{ap, _∙_}
+use Rattle.math.specs.Mat.{rotation as turn}
+use Rattle.transform.specs.declared.Radians.{Radians}
 use borrow.Author.Needs.{needs}
 use Rattle.transform.specs.Ops.{turned}
 use Rattle.transform.proofs.rotation.Statement.{statement}
@@ -12,7 +15,7 @@ rotation-requires c κs = search needs
 
 returns : tie.Need-returns
 unfolding turned
-returns c = cc
+returns c = c .rotation .ensures ∙ ap (λ (r : Radians). turn (c .before .before .args .axis) (r .0)) (c .before .angle-radians .ensures)
 
 pub rotation-spec : {M : Type 1} → statement M
 rotation-spec = tie.close (tie.spec angle-radians-requires rotation-requires returns)

@@ -1,4 +1,5 @@
 -- `transform::row_finite` meets its contract. Assumes nothing.
+use mathlib.Core.Bool.{_&&_}
 use borrow.Author.Needs.{needs}
 use Rattle.transform.specs.Checks.{rowFinite}
 use Rattle.transform.proofs.row_finite.Statement.{statement}
@@ -18,7 +19,7 @@ is-finite-requires-4 c κs = search needs
 
 returns : tie.Need-returns
 unfolding rowFinite
-returns c = cc
+returns c i = c .before .before .before .is-finite .ensures i && c .before .before .is-finite2 .ensures i && c .before .is-finite3 .ensures i && c .is-finite4 .ensures i
 
 pub row-finite-spec : {M : Type 1} → statement M
 row-finite-spec =

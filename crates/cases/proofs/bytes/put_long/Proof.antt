@@ -1,5 +1,8 @@
 -- `cases::bytes::put_long` meets its contract. Assumes nothing.
-use Rattle.cases.specs.Bytes.{withLong}
+use mathlib.Core.Path.{ap, _∙_}
+use mathlib.Core.List.{List}
+use Prim.Native.Nat.{ℕ, _+_, _/_}
+use Rattle.cases.specs.Bytes.{withWord, withLong}
 use borrow.Author.Needs.{needs}
 use Rattle.cases.proofs.bytes.put_long.Statement.{statement}
 use Rattle.cases.proofs.bytes.put_long.Tie as tie
@@ -21,7 +24,11 @@ same-length c = search needs
 
 returns : tie.Need-returns
 unfolding withLong
-returns c = cc
+returns c =
+    let d = c .before .before in
+    let p = d .before .before .before .before in
+    let a = p .before .before .before .args in
+    d .put-low2 .ensures ∙ ap (λ (l : List ℕ). withWord l (a .at + 4) (a .w / 4294967296)) (p .put-low .ensures)
 
 pub put-long-spec : {M : Type 1} → statement M
 put-long-spec =

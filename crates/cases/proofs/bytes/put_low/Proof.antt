@@ -1,6 +1,8 @@
 -- `cases::bytes::put_low` meets its contract. Assumes nothing.
+use denote.Ref.{now}
+use Prim.Native.Nat.{_+_}
 use native.Mathlib.Omega.{arith}
-use lib.ListN.{length-set}
+use lib.ListN.{set, length-set}
 use Rattle.cases.specs.Bytes.{withWord}
 use borrow.Author.Needs.{needs}
 use Rattle.cases.proofs.bytes.put_low.Statement.{statement}
@@ -47,7 +49,11 @@ same-length c = search needs
 
 returns : tie.Need-returns
 unfolding withWord
-returns c = cc
+returns c i =
+    let c1 = c .before .before .before in
+    let a = c1 .before .before .args in
+    set (set (set (set (now (a .b)) (a .at) (c1 .low-byte .ensures i)) (a .at + 1) (c .before .before .low-byte2 .ensures i)) (a .at + 2) (c .before .low-byte3 .ensures i)) (a .at + 3)
+    (c .low-byte4 .ensures i)
 
 pub put-low-spec : {M : Type 1} → statement M
 put-low-spec =

@@ -1,4 +1,7 @@
 -- `cases::bytes::put_word` meets its contract. Assumes nothing.
+use denote.Ref.{now}
+use mathlib.Core.Path.{ap, _∙_}
+use Rattle.cases.specs.Bytes.{withWord}
 use borrow.Author.Needs.{needs}
 use Rattle.cases.proofs.bytes.put_word.Statement.{statement}
 use Rattle.cases.proofs.bytes.put_word.Tie as tie
@@ -17,7 +20,10 @@ same-length : tie.Need-same-length
 same-length c = search needs
 
 returns : tie.Need-returns
-returns c = cc
+returns c =
+    let d = c .before .before in
+    let a = d .before .before .before .before .args in
+    d .put-low .ensures ∙ ap (withWord (now (a .b)) (a .at)) (d .before .wider .ensures .0)
 
 pub put-word-spec : {M : Type 1} → statement M
 put-word-spec = tie.close (tie.spec wider-requires put-low-requires same-length returns)

@@ -1,4 +1,6 @@
 -- `cases::floats::float_at` meets its contract. Assumes nothing.
+use mathlib.Core.Path.{ap, _∙_}
+use lib.Ieee.{binary64, ofBits}
 use borrow.Author.Needs.{needs}
 use Rattle.cases.proofs.floats.float_at.Statement.{statement}
 use Rattle.cases.proofs.floats.float_at.Tie as tie
@@ -14,7 +16,7 @@ from-bits-requires : tie.Need-from-bits-requires
 from-bits-requires c κs = search needs
 
 returns : tie.Need-returns
-returns c = cc
+returns c = c .from-bits .ensures ∙ ap (ofBits binary64) (c .before .long-at .ensures)
 
 pub float-at-spec : {M : Type 1} → statement M
 float-at-spec = tie.close (tie.spec long-at-requires from-bits-requires returns)

@@ -1,4 +1,7 @@
 -- `cases::floats::put_float` meets its contract. Assumes nothing.
+use denote.Ref.{now}
+use mathlib.Core.Path.{ap, _∙_}
+use Rattle.cases.specs.Bytes.{withLong}
 use borrow.Author.Needs.{needs}
 use Rattle.cases.proofs.floats.put_float.Statement.{statement}
 use Rattle.cases.proofs.floats.put_float.Tie as tie
@@ -17,7 +20,10 @@ same-length : tie.Need-same-length
 same-length c = search needs
 
 returns : tie.Need-returns
-returns c = cc
+returns c =
+    let d = c .before .before in
+    let a = d .before .before .before .before .args in
+    d .put-long .ensures ∙ ap (withLong (now (a .b)) (a .at)) (d .before .bits-of .ensures)
 
 pub put-float-spec : {M : Type 1} → statement M
 put-float-spec = tie.close (tie.spec bits-of-requires put-long-requires same-length returns)

@@ -23,7 +23,7 @@ float-at-requires-3 : tie.Need-float-at-requires-3
 float-at-requires-3 c κs = search needs
 
 returns : tie.Need-returns
-returns c = cc
+returns c i = record { x = c .before .before .float-at .ensures i; y = c .before .float-at2 .ensures i; z = c .float-at3 .ensures i }
 
 pub vec-at-spec : {M : Type 1} → statement M
 vec-at-spec =

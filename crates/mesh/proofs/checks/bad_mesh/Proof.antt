@@ -3,23 +3,24 @@ use denote.Ref.{now}
 use mathlib.Core.Path.{_≡_, sym, ap, _∙_, subst}
 use Prim.Native.Nat.{ℕ, _*_, _≤_, _<_}
 use lib.ListN.{length}
-use Rattle.mesh.specs.State.{state, wholePlaces}
+use Rattle.slices.specs.Every.{wholePlaces}
+use Rattle.mesh.specs.State.{state}
 use Rattle.mesh.proofs.Sound.{bad-vertices, bad-triangles, bad-numbers, places-three, places-limit}
 use borrow.Author.Needs.{needs}
 use native.Mathlib.Omega.{arith}
 use Rattle.mesh.proofs.checks.bad_mesh.Statement.{statement}
 use Rattle.mesh.proofs.checks.bad_mesh.Tie as tie
 
-places-requires : tie.Need-places-requires
-places-requires c κs = search needs
+whole-places-requires : tie.Need-whole-places-requires
+whole-places-requires c κs = search needs
 
 returns : tie.Need-returns
 returns c =
     let a = c .before .before .before .before .args in
     bad-vertices (state (a .mesh) (now (a .vertices)) (now (a .triangles))) (omega arith)
 
-places-requires-2 : tie.Need-places-requires-2
-places-requires-2 c κs = search needs
+whole-places-requires-2 : tie.Need-whole-places-requires-2
+whole-places-requires-2 c κs = search needs
 
 returns-2 : tie.Need-returns-2
 returns-2 c =
@@ -53,9 +54,9 @@ pub bad-mesh-spec : {M : Type 1} → statement M
 bad-mesh-spec =
     tie.close
     (tie.spec
-    places-requires
+    whole-places-requires
     returns
-    places-requires-2
+    whole-places-requires-2
     returns-2
     mul-all-below
     cast-all-below

@@ -7,7 +7,7 @@ use Rattle.balance.specs.Soup.{flip as flipTri}
 use Rattle.trimesh.specs.Mesh.{flip}
 use Rattle.mesh.specs.State.{state, meshOf, stored, checkOf, isAccepted}
 use Rattle.mesh.specs.Edits.{flipOf}
-use Rattle.mesh.specs.Triples.{eachTo}
+use Rattle.triples.specs.Triples.{eachTo}
 use Rattle.mesh.proofs.Stored.{stored-flip}
 use Rattle.mesh.proofs.Outcomes.{gives-kept, gives-done}
 use Rattle.mesh.proofs.Accepted.{check-sound}

@@ -14,7 +14,7 @@ use Rattle.balance.specs.Soup.{flip as flipTri}
 use Rattle.trimesh.specs.Mesh.{Mesh}
 use Rattle.mesh.specs.State.{State, state, meshOf, stored, isAccepted}
 use Rattle.mesh.specs.Edits.{transformed, transformRefusal, transformOf}
-use Rattle.mesh.specs.Triples.{eachTo, movedTriple}
+use Rattle.triples.specs.Triples.{eachTo, movedTriple}
 use Rattle.mesh.proofs.Stored.{stored-moved, stored-mirrored}
 use Rattle.mesh.proofs.Outcomes.{gives-kept, gives-done, transform-mirrors, transform-moves}
 use Rattle.mesh.proofs.Accepted.{transform-sound, transform-finite}

@@ -9,7 +9,7 @@ use Rattle.mesh.proofs.Readings.{all-within, sum-is, measure-refused, m
 use lib.Ieee.{Float, binary64, ofBits}
 use Rattle.ieee.specs.MinMax.{absolute}
 use Rattle.trimesh.specs.Measures.{enclosedVolume, volumeTerm}
-use Rattle.mesh.proofs.Readings.{volume-is}
+use Rattle.measure.proofs.Terms.{volume-is}
 use borrow.Author.Needs.{needs}
 use Rattle.mesh.proofs.measures.enclosed_volume.Statement.{statement}
 use Rattle.mesh.proofs.measures.enclosed_volume.Tie as tie

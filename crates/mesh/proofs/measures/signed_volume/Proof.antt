@@ -8,7 +8,7 @@ use Rattle.mesh.proofs.Accepted.{check-sound}
 use Rattle.mesh.proofs.Readings.{all-within, sum-is, measure-refused, measure-done}
 use lib.Ieee.{binary64, ofBits, div}
 use Rattle.trimesh.specs.Measures.{signedVolume, volumeTerm}
-use Rattle.mesh.proofs.Readings.{volume-is}
+use Rattle.measure.proofs.Terms.{volume-is}
 use borrow.Author.Needs.{needs}
 use Rattle.mesh.proofs.measures.signed_volume.Statement.{statement}
 use Rattle.mesh.proofs.measures.signed_volume.Tie as tie

@@ -4,7 +4,8 @@ use mathlib.Core.Path.{_≡_, sym, _∙_}
 use mathlib.Core.Bool.{true, false}
 use Prim.Native.Nat.{_+_, _≤_, _<_}
 use lib.ListN.{length}
-use Rattle.mesh.specs.State.{state, wholePlaces, badMesh, notFinite}
+use Rattle.slices.specs.Every.{wholePlaces}
+use Rattle.mesh.specs.State.{state, badMesh, notFinite}
 use Rattle.mesh.proofs.Sound.{sound, vertices-fit, triangles-fit, places-limit}
 use Rattle.mesh.proofs.Outcomes.{or-first, or-second, or-neither, finite-test, append-bad, append-not-finite, append-no-room, append-accepted}
 use Rattle.mesh.proofs.Outcomes.{no-vertex-room, no-triangle-room, room}
@@ -87,8 +88,8 @@ returns-4 c =
     let q = finite-test o (c .before .all-finite2 .result) true (c .before .all-finite2 .ensures) (c .if4 .taken) in
     append-not-finite s o b (or-second (notFinite s) (notFinite o) f q)
 
-places-requires : tie.Need-places-requires
-places-requires c κs = search needs
+whole-places-requires : tie.Need-whole-places-requires
+whole-places-requires c κs = search needs
 
 add-if5 : tie.Need-add-if5
 add-if5 c =
@@ -114,11 +115,11 @@ returns-5 c =
     (c .before .before .before .before .if3 .left) in
     let q = finite-test o (c .before .before .before .all-finite2 .result) false (c .before .before .before .all-finite2 .ensures) (c .before .before .if4 .left) in
     let n = or-neither (notFinite s) (notFinite o) f q in
-    let pv : wholePlaces (length (s .vertices)) < s .mesh .vertices + o .mesh .vertices = omega (arith, c .before .places .ensures, c .if5 .taken) in
+    let pv : wholePlaces (length (s .vertices)) < s .mesh .vertices + o .mesh .vertices = omega (arith, c .before .whole-places .ensures, c .if5 .taken) in
     append-no-room s o b n (no-vertex-room s o (sound s g) (sound o h) pv)
 
-places-requires-2 : tie.Need-places-requires-2
-places-requires-2 c κs = search needs
+whole-places-requires-2 : tie.Need-whole-places-requires-2
+whole-places-requires-2 c κs = search needs
 
 add-if6 : tie.Need-add-if6
 add-if6 c =
@@ -147,8 +148,8 @@ returns-6 c =
     let q = finite-test o (c .before .before .before .before .before .all-finite2 .result) false (c .before .before .before .before .before .all-finite2 .ensures)
     (c .before .before .before .before .if4 .left) in
     let n = or-neither (notFinite s) (notFinite o) f q in
-    let pv : s .mesh .vertices + o .mesh .vertices ≤ wholePlaces (length (s .vertices)) = omega (arith, c .before .before .before .places .ensures, c .before .before .if5 .left) in
-    let pt : wholePlaces (length (s .triangles)) < s .mesh .triangles + o .mesh .triangles = omega (arith, c .before .places2 .ensures, c .if6 .taken) in
+    let pv : s .mesh .vertices + o .mesh .vertices ≤ wholePlaces (length (s .vertices)) = omega (arith, c .before .before .before .whole-places .ensures, c .before .before .if5 .left) in
+    let pt : wholePlaces (length (s .triangles)) < s .mesh .triangles + o .mesh .triangles = omega (arith, c .before .whole-places2 .ensures, c .if6 .taken) in
     append-no-room s o b n (no-triangle-room s o (sound s g) (sound o h) pv pt)
 
 returns-7 : tie.Need-returns-7
@@ -166,8 +167,8 @@ returns-7 c =
     let q = finite-test o (c .before .before .before .before .before .all-finite2 .result) false (c .before .before .before .before .before .all-finite2 .ensures)
     (c .before .before .before .before .if4 .left) in
     let n = or-neither (notFinite s) (notFinite o) f q in
-    let pv : s .mesh .vertices + o .mesh .vertices ≤ wholePlaces (length (s .vertices)) = omega (arith, c .before .before .before .places .ensures, c .before .before .if5 .left) in
-    let pt : s .mesh .triangles + o .mesh .triangles ≤ wholePlaces (length (s .triangles)) = omega (arith, c .before .places2 .ensures, c .if6 .left) in
+    let pv : s .mesh .vertices + o .mesh .vertices ≤ wholePlaces (length (s .vertices)) = omega (arith, c .before .before .before .whole-places .ensures, c .before .before .if5 .left) in
+    let pt : s .mesh .triangles + o .mesh .triangles ≤ wholePlaces (length (s .triangles)) = omega (arith, c .before .whole-places2 .ensures, c .if6 .left) in
     append-accepted s o b n (room s o (sound s g) (sound o h) pv pt)
 
 pub append-refusal-spec : {M : Type 1} → statement M
@@ -184,10 +185,10 @@ append-refusal-spec =
     mul-all-finite-2
     all-finite-requires-2
     returns-4
-    places-requires
+    whole-places-requires
     add-if5
     returns-5
-    places-requires-2
+    whole-places-requires-2
     add-if6
     returns-6
     returns-7)

@@ -1,5 +1,4 @@
 -- `shape::lists::most_items` meets its contract. Assumes nothing.
-use borrow.Author.Needs.{needs}
 use borrow.Author.Tests.{eq-eqb, ne-eqb}
 use Rattle.shape.specs.Drawing.{mostItems}
 use Rattle.shape.proofs.lists.most_items.Statement.{statement}

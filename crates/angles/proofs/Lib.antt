@@ -1,0 +1,2 @@
+-- What the proofs of `angles` share.
+pub mod Loops

@@ -1,0 +1,3 @@
+-- What the contracts of `chain` cite: the points in a slice, and the hash chains.
+pub mod Points
+pub mod Hash

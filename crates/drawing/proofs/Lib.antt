@@ -1,0 +1,3 @@
+-- What the proofs of `drawing` share.
+pub mod Loops
+pub mod Order

@@ -1,2 +1,0 @@
--- Laws that the proofs of `fill` share.
-pub mod Clearing

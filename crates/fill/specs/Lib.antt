@@ -1,2 +1,0 @@
--- What the contracts of `fill` cite.
-pub mod Cleared

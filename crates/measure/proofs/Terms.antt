@@ -1,0 +1,108 @@
+-- The loops of the measures: sums over the corners of triangles, and the box of vertices. Assumes nothing.
+use mathlib.Core.Path.{_≡_, refl, sym, ap, _∙_}
+use mathlib.Core.Bool.{Bool, true, false, not, true≢false}
+use mathlib.Core.List.{List, [], _∷_, map}
+use Prim.Native.Nat.{ℕ, zero, suc, _+_, _*_, _≤_, _<_}
+use native.Mathlib.Omega.{arith}
+use lib.IntN.{pos}
+use lib.ListN.{length, take, drop, getD, length-map}
+use lib.Seq.{length-take-le}
+use lib.Dec.{T}
+use lib.Ieee.{Float, nan, inf, fin, binary64, add, div, ofBits, ofInt, ne, eq, isNan, toBits}
+use Rattle.ieee.specs.Same.{eq-refl}
+use Rattle.math.specs.declared.Vec3.{Vec3}
+use Rattle.math.specs.declared.BoundingBox.{BoundingBox}
+use Rattle.math.specs.Vec.{vSub, cross, dot, norm}
+use Rattle.math.specs.Box.{include}
+use Rattle.balance.specs.Soup.{Tri, mapTri}
+use Rattle.balance.specs.Buffer.{tris}
+use Rattle.trimesh.specs.Mesh.{Mesh}
+use Rattle.trimesh.specs.SliceLaws.{length-tris}
+use Rattle.trimesh.specs.Measures.{sumOf, volumeTerm, areaTerm, including, triangleSoup, signedVolume}
+use Rattle.triples.specs.Triples.{tripleAt, vertexAt, cornersAt, cornersOf, CornersWithin, AllWithin}
+use Rattle.slices.proofs.Next.{Next, next-map, drop-end}
+use Rattle.triples.proofs.NextTriples.{next-counted}
+
+-- ---- one triangle
+pub corners-within : (vs : List Float) (ts : List ℕ) (k i : ℕ) → AllWithin vs ts k → i < k → CornersWithin vs ts i
+corners-within vs ts k i w h = record {
+  triangle = omega (arith, w .triangles);
+  first = w .corners (3 * i) (omega arith);
+  second = w .corners (3 * i + 1) (omega arith);
+  third = w .corners (3 * i + 2) (omega arith);
+}
+
+module _ (vs : List Float) (ts : List ℕ) (i : ℕ) where
+  abbrev at : ℕ → Vec3
+  at j = vertexAt vs (getD ts j 0)
+
+  pub volume-value : (a b c x : Vec3) (r : Float) → a ≡ at (3 * i) → b ≡ at (3 * i + 1) → c ≡ at (3 * i + 2) → x ≡ cross b c → r ≡ dot a x → r ≡ volumeTerm (cornersAt vs ts i)
+  unfolding volumeTerm
+  volume-value a b c x r ea eb ec ex er = er ∙ (λ j. dot (ea j) (ex j)) ∙ (λ j. dot (at (3 * i)) (cross (eb j) (ec j)))
+
+  pub area-value : (a b c s t x : Vec3) (r : Float) → a ≡ at (3 * i) → b ≡ at (3 * i + 1) → c ≡ at (3 * i + 2) → s ≡ vSub b a → t ≡ vSub c a → x ≡ cross s t → r ≡ norm x
+      → div binary64 r (ofInt binary64 (pos 2)) ≡ areaTerm (cornersAt vs ts i)
+  unfolding areaTerm
+  area-value a b c s t x r ea eb ec es et ex er =
+      ap {B = Float} (λ (q : Float). div binary64 q (ofInt binary64 (pos 2))) (
+      er
+      ∙ ap {B = Float} norm (ex ∙ (λ j. cross (es j) (et j)) ∙ (λ j. cross (vSub (eb j) (ea j)) (vSub (ec j) (ea j))))
+      )
+
+-- ---- sums
+pub next-corners : (vs : List Float) (ts : List ℕ) (k i : ℕ) → i < k → 3 * k ≤ length ts → Next (cornersOf vs ts k) i (cornersAt vs ts i)
+next-corners vs ts k i h n = next-map (mapTri (vertexAt vs)) (tris (take (3 * k) ts)) i (tripleAt ts i 0) (next-counted ts k i 0 h n)
+
+pub length-corners : (vs : List Float) (ts : List ℕ) (k : ℕ) → 3 * k ≤ length ts → length (cornersOf vs ts k) ≡ k
+length-corners vs ts k h = length-map (tris (take (3 * k) ts)) (mapTri (vertexAt vs)) ∙ length-tris k (take (3 * k) ts) (length-take-le (3 * k) ts h)
+
+module _ (f : Tri Vec3 → Float) (l : List (Tri Vec3)) where
+  pub sum-turn : (i : ℕ) (t : Tri Vec3) (s x total : Float) → Next l i t → x ≡ f t → sumOf f s (drop i l) ≡ total → sumOf f (add binary64 s x) (drop (i + 1) l) ≡ total
+  unfolding sumOf
+  sum-turn i t s x total h e p = ap {B = Float} (λ (y : Float). sumOf f (add binary64 s y) (drop (i + 1) l)) e ∙ sym (ap {B = Float} (sumOf f s) h) ∙ p
+
+  pub sum-ended : (i : ℕ) (s total : Float) → length l ≤ i → sumOf f s (drop i l) ≡ total → s ≡ total
+  unfolding sumOf
+  sum-ended i s total h p = sym (ap {B = Float} (sumOf f s) (drop-end l i h)) ∙ p
+
+-- 6.0 is the float of 6
+pub volume-is : (m : Mesh) (v : Float) → v ≡ sumOf volumeTerm (ofBits binary64 0) (triangleSoup m) → div binary64 v (ofBits binary64 0x4018000000000000) ≡ signedVolume m
+unfolding signedVolume
+volume-is m v e = (λ j. div binary64 (e j) (six j))
+  where
+    six : ofBits binary64 0x4018000000000000 ≡ ofInt binary64 (pos 6)
+    six = unfold ofBits ofInt in refl
+
+-- ---- the box
+module _ (l : List Vec3) where
+  pub include-turn : (i : ℕ) (p q : Vec3) (b c total : BoundingBox) → Next l i p → q ≡ p → c ≡ include b q → including b (drop i l) ≡ total → including c (drop (i + 1) l) ≡ total
+  unfolding including
+  include-turn i p q b c total h e k s =
+      ap {B = BoundingBox} (λ (y : BoundingBox). including y (drop (i + 1) l)) (k ∙ ap {B = BoundingBox} (include b) e)
+      ∙ sym (ap {B = BoundingBox} (including b) h)
+      ∙ s
+
+  pub include-ended : (i : ℕ) (b total : BoundingBox) → length l ≤ i → including b (drop i l) ≡ total → b ≡ total
+  unfolding including
+  include-ended i b total h p = sym (ap {B = BoundingBox} (including b) (drop-end l i h)) ∙ p
+
+-- ---- bits
+differs : (x : Float) → T (not (isNan x)) → ne x x ≡ false
+unfolding ne
+differs x h = go (eq x x) (eq-refl x h)
+  where
+    go : (b : Bool) → T b → not b ≡ false
+    go true t = refl
+    go false t = absurd t
+
+pub nan-bits : (x : Float) → ne x x ≡ true → 9221120237041090560 ≡ toBits binary64 x
+unfolding toBits isNan
+nan-bits nan h = refl
+nan-bits (inf s) h = absurd (true≢false (sym h ∙ differs (inf s) tt))
+nan-bits (fin s m e) h = absurd (true≢false (sym h ∙ differs (fin s m e) tt))
+
+pub no-nan : (x : Float) → ne x x ≡ false → T (not (isNan x))
+unfolding ne eq isNan
+no-nan nan h = absurd (true≢false h)
+no-nan (inf s) h = tt
+no-nan (fin s m e) h = tt

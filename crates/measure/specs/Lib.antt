@@ -1,0 +1,2 @@
+-- What the contracts of `measure` cite.
+pub mod ZeroBox

@@ -1,0 +1,2 @@
+-- What the contracts of `quads` cite.
+pub mod Quads

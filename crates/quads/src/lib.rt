@@ -1,0 +1,89 @@
+// Soup::quad of src/tessellate.rs: a quad is two triangles, welded together, so that each of its points is looked up once at most.
+ghost use mathlib.Core.Path.{_≡_};
+ghost use mathlib.Core.Bool.{_&&_};
+ghost use mathlib.Core.List.{[], _∷_};
+ghost use Rattle.trimesh.specs.Mesh.{finiteV};
+ghost use Rattle.weld.specs.Rep.{held, Ready, Runs};
+
+mod corners;
+
+use math::Vec3;
+use weld::Welder;
+
+// The state after a quad, and what its points' numbers were. Callers hand the numbers back as guesses: a guess that is
+// wrong costs a look-up, and nothing else.
+pub struct Quad {
+    pub st: Welder,
+    pub a: usize,
+    pub b: usize,
+    pub c: usize,
+    pub d: usize,
+}
+
+// Soup::quad: the triangles a, b, c and a, c, d. The last three arguments are guesses at the numbers of a, b and d.
+pub fn weld_quad(
+    vertices: &mut [f64],
+    triangles: &mut [u32],
+    work: &mut [u32],
+    w: Welder,
+    a: Vec3,
+    b: Vec3,
+    c: Vec3,
+    d: Vec3,
+    na: usize,
+    nb: usize,
+    nd: usize,
+) -> Quad
+    requires { ⌜ Ready (held w (now vertices) (now triangles) (now work)) ⌝ }
+    ensures { λ r. ⌜ Runs ((a, b, c) ∷ (a, c, d) ∷ [])
+        (held w (now (vertices .entry)) (now (triangles .entry)) (now (work .entry)))
+        (held (r .st) (now (vertices .exit)) (now (triangles .exit)) (now (work .exit))) ⌝ }
+{
+    let finite = w.finite;
+    if !finite {
+        return unnumbered(w);
+    }
+    if !are_finite(a, b, c, d) {
+        return unnumbered(weld::stopped(w));
+    }
+    corners::weld_corners(
+        vertices,
+        triangles,
+        work,
+        w,
+        weld::plus_zero(a),
+        weld::plus_zero(b),
+        weld::plus_zero(c),
+        weld::plus_zero(d),
+        na,
+        nb,
+        nd,
+    )
+}
+
+// A quad that was not welded: any guess will do.
+fn unnumbered(w: Welder) -> Quad
+    ensures { λ r. ⌜ r .st ≡ w ⌝ }
+{
+    Quad {
+        st: w,
+        a: 0,
+        b: 0,
+        c: 0,
+        d: 0,
+    }
+}
+
+// Whether four points are finite.
+fn are_finite(a: Vec3, b: Vec3, c: Vec3, d: Vec3) -> bool
+    ensures { λ r. ⌜ r ≡ (finiteV a && finiteV b && finiteV c && finiteV d) ⌝ }
+{
+    if weld::is_finite(a) {
+        if weld::is_finite(b) {
+            if weld::is_finite(c) {
+                return weld::is_finite(d);
+            }
+        }
+    }
+    false
+}

@@ -1,3 +1,0 @@
--- What the proofs of `shape` share.
-pub mod Loops
-pub mod Order

@@ -1,0 +1,2 @@
+-- What the contracts of `triples` cite.
+pub mod Triples
