@@ -11,7 +11,7 @@ use transform::TransformOp;
 fn point_within(cyl: bool, p: Vec3) -> bool
     ensures { λ r. ⌜ r ≡ Drawing.pointWithin cyl p ⌝ }
 {
-    !cyl | transform::within_1000(Radians(p.y))
+    !cyl | opcheck::within_1000(Radians(p.y))
 }
 
 // Whether the angles of the shape's own points, and its start and stop angle, are within 1,000.
@@ -32,8 +32,8 @@ fn shape_within(cyl: bool, shape: Shape) -> bool
             start_angle,
             stop_angle,
             ..
-        } => transform::within_1000(Radians(start_angle))
-            & transform::within_1000(Radians(stop_angle)),
+        } => opcheck::within_1000(Radians(start_angle))
+            & opcheck::within_1000(Radians(stop_angle)),
         Shape::Wire { .. } => true,
     }
 }
@@ -44,7 +44,7 @@ fn points_within(list: &[f64]) -> bool
 {
     let mut i = 0;
     while 3 <= list.len() - i {
-        let good = transform::within_1000(Radians(list[i + 1]));
+        let good = opcheck::within_1000(Radians(list[i + 1]));
         if !good {
             return false;
         }
@@ -79,6 +79,6 @@ pub fn angles_bad(
 {
     let good = shape_within(cyl, shape)
         & list_within(cyl, shape::item_floats(shape), list)
-        & transform::ops_angles_within(ops, op_count, degrees);
+        & opcheck::ops_angles_within(ops, op_count, degrees);
     !good
 }

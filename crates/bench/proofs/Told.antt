@@ -7,8 +7,8 @@ use Rattle.refusal.specs.Number.{numberOf}
 use Rattle.mesh.specs.declared.Edited.{Edited}
 use Rattle.mesh.specs.State as Edit
 use Rattle.outcome.specs.Outcome.{Outcome}
-use Rattle.tessellate.specs.declared.Tessellated.{Tessellated}
-use Rattle.tessellate.specs.Gives.{Gives}
+use Rattle.outcome.specs.declared.Tessellated.{Tessellated}
+use Rattle.outcome.specs.Gives.{Gives}
 use Rattle.bench.specs.Answers.{Tells, Leaves}
 
 pub tells : {o : Outcome} {r : Tessellated} {n : ℕ} {vs : List Float} {ts ws : List ℕ}

@@ -15,7 +15,7 @@ use Rattle.shape.specs.declared.CoordSystem.the-variants.{Cartesian}
 use Rattle.mesh.specs.declared.TriMesh.{TriMesh}
 use Rattle.mesh.specs.State as Edit
 use Rattle.outcome.specs.Outcome.{Outcome, tessellateOf}
-use Rattle.tessellate.specs.Gives.{job}
+use Rattle.outcome.specs.Gives.{job}
 
 -- a point by its numbers
 abbrev pub at : Float → Float → Float → Vec3

@@ -5,7 +5,7 @@ use shape::CoordSystem;
 use shape::OwnSystem;
 use shape::Shape;
 use shape::TessellationOptions;
-use tessellate::Tessellated;
+use outcome::Tessellated;
 use transform::TransformOp;
 
 // "N vertices, M triangles", or the refusal.

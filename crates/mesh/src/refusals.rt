@@ -86,16 +86,16 @@ pub fn transform_refusal(
     if checks::bad_mesh(mesh, vertices, triangles) {
         return Refusal::BadMesh;
     }
-    if !transform::op_count_within(op_count) {
+    if !opcheck::op_count_within(op_count) {
         return Refusal::BadList;
     }
     if !slices::all_finite(vertices, 3 * n) {
         return Refusal::NotFinite;
     }
-    if !transform::ops_finite(ops, op_count) {
+    if !opcheck::ops_finite(ops, op_count) {
         return Refusal::NotFinite;
     }
-    if !transform::ops_angles_within(ops, op_count, degrees) {
+    if !opcheck::ops_angles_within(ops, op_count, degrees) {
         return Refusal::AngleTooLarge;
     }
     if op_count == 0 {

@@ -20,8 +20,9 @@ use Rattle.slices.specs.Every.{wholePlaces, every}
 use Rattle.outcome.specs.Solid.{partsFinite}
 use Rattle.outcome.specs.Outcome.{Job, jobParts, weldedMesh, finalMesh, shortWork, jobRefusal, badSoup, tooFewPlaces, badVertex, isAccepted, orElse, refusalOf}
 use Rattle.outcome.specs.Outcome.{Outcome, refusedAs, acceptedAs, tessellateOf}
-use Rattle.tessellate.specs.Steps.{isRotPoly, turned, movedAs, placedAs, Drawn}
-use Rattle.tessellate.proofs.Turning.{solid-turned, turned-vertices, turned-triangles}
+use Rattle.finish.specs.Ends.{isRotPoly, turned, movedAs, placedAs}
+use Rattle.tessellate.specs.Steps.{Drawn}
+use Rattle.finish.proofs.Turning.{solid-turned, turned-vertices, turned-triangles}
 
 -- the first refusal, by the tests
 abbrev first : Bool → Refusal → Bool → Bool → Bool → Refusal

@@ -28,8 +28,8 @@ use Rattle.mesh.specs.State.{state, stored}
 use Rattle.outcome.specs.Solid.{partsFinite}
 use Rattle.outcome.specs.Outcome.{tooFewPlaces, shortWork}
 use Rattle.tessellate.specs.Steps.{countsOf, Drawable, Welded}
-use Rattle.tessellate.proofs.Ending.{cleared-all}
-use Rattle.tessellate.proofs.Lying.{lies}
+use Rattle.finish.proofs.Ending.{cleared-all}
+use Rattle.finish.proofs.Lying.{lies}
 
 -- ---- the work slice before the welding
 zeros : (n k : ℕ) → _≡_ {A = ℕ} (getD (replicate n 0) k 0) 0

@@ -1,3 +1,2 @@
 -- What the contracts of `tessellate` cite beside the definitions of `outcome`.
-pub mod Gives
 pub mod Steps

@@ -1,45 +1,22 @@
--- What the contracts of the steps of `tessellate` cite: the mesh as it lies in the slices after each step. Definitions only.
+-- What the contracts of the steps of `tessellate` cite: what was drawn, and what was welded. Definitions only.
 use mathlib.Core.Path.{_≡_}
-use mathlib.Core.Bool.{Bool, true, false, cond}
+use mathlib.Core.Bool.{true, false}
 use mathlib.Core.List.{List}
-use Prim.Native.Nat.{ℕ, _*_, _≤_}
-use lib.ListN.{length, take, replicate}
-use lib.Dec.{ltb}
-use lib.Ieee.{Float, binary64, ofBits}
-use Rattle.math.specs.declared.Mat4.{Mat4}
-use Rattle.math.specs.Vec.{vFinite}
-use Rattle.transform.specs.declared.TransformOp.{TransformOp}
-use Rattle.transform.specs.Ops.{folded}
-use Rattle.refusal.specs.declared.Refusal.the-variants.{Accepted, PointNotFinite}
-use Rattle.slices.specs.Cleared.{clearedFrom}
-use Rattle.trimesh.specs.Mesh.{Mesh, fromParts}
-use Rattle.trimesh.specs.Edits.{transform}
-use Rattle.trimesh.specs.Closed.{AllThere}
+use Prim.Native.Nat.{ℕ, _≤_}
+use lib.ListN.{length}
+use lib.Ieee.{Float}
+use Rattle.refusal.specs.declared.Refusal.the-variants.{Accepted}
+use Rattle.trimesh.specs.Mesh.{fromParts}
 use Rattle.soups.specs.Grid.{Soup}
 use Rattle.weld.specs.declared.Welder.{Welder}
 use Rattle.shape.specs.declared.Shape.{Shape}
-use Rattle.shape.specs.declared.Shape.the-variants.{Box, MultiBox, Sphere, SphericalShell, Cylinder, CylindricalShell, Polygon, LinPoly, RotPoly, Wire}
 use Rattle.shape.specs.declared.TessellationOptions.{TessellationOptions}
 use Rattle.shape.specs.Drawing.{badList, itemFloats}
 use Rattle.mesh.specs.declared.TriMesh.{TriMesh}
 use Rattle.slices.specs.Every.{every}
-use Rattle.mesh.specs.State.{State, state, meshOf, stored, Sound}
-use Rattle.outcome.specs.Solid.{partsFinite, outward}
-use Rattle.outcome.specs.Outcome.{Job, Outcome, acceptedAs, refusedAs, tooFewPlaces, shortWork, jobRefusal}
-use Rattle.tessellate.specs.declared.Tessellated.{Tessellated}
-
--- whether the shape is a rotated outline
-unfoldable pub isRotPoly : Shape → Bool
-isRotPoly (Box start stop) = false
-isRotPoly MultiBox = false
-isRotPoly (Sphere center radius) = false
-isRotPoly (SphericalShell center radius width) = false
-isRotPoly (Cylinder start stop radius) = false
-isRotPoly (CylindricalShell start stop radius width) = false
-isRotPoly (Polygon normal elevation) = false
-isRotPoly (LinPoly normal elevation length) = false
-isRotPoly (RotPoly normal elevation axis start stop) = true
-isRotPoly (Wire radius) = false
+use Rattle.mesh.specs.State.{state, stored}
+use Rattle.outcome.specs.Solid.{partsFinite}
+use Rattle.outcome.specs.Outcome.{Job, tooFewPlaces, shortWork, jobRefusal}
 
 -- the counts in the welder's state
 abbrev pub countsOf : Welder → TriMesh
@@ -57,36 +34,6 @@ pub record Welded (parts : List Soup) (w : Welder) (vs : List Float) (ts : List 
   pub over : w .finite ≡ true → w .room ≡ false → tooFewPlaces (fromParts parts) (length vs) (length ts) ≡ true
   pub fits : w .finite ≡ true → w .room ≡ true → tooFewPlaces (fromParts parts) (length vs) (length ts) ≡ false
   pub holds : w .finite ≡ true → w .room ≡ true → state (countsOf w) vs ts ≡ stored (fromParts parts) (state (countsOf w) vs ts)
-
--- the counted places lie in the slices, and the triangles name only vertices that are there
-pub record Whole (s : State) : Type 0 where
-  pub sound : Sound s
-  pub there : AllThere (meshOf s)
-
--- the first n vertex places and k triangle places stay, zeros stand after them and in the work slice
-pub record Keeps (n k : ℕ) (vs : List Float) (ts ws : List ℕ) (vs' : List Float) (ts' ws' : List ℕ) : Type 0 where
-  pub vertices : vs' ≡ clearedFrom (ofBits binary64 0) (3 * n) vs
-  pub triangles : ts' ≡ clearedFrom 0 (3 * k) ts
-  pub work : ws' ≡ clearedFrom 0 0 ws
-
--- the answer of an accepted call: the counts, and the counted places stay
-pub record Closes (counts : TriMesh) (vs : List Float) (ts ws : List ℕ) (r : Tessellated) (vs' : List Float) (ts' ws' : List ℕ) : Type 0 where
-  pub refusal : r .refusal ≡ Accepted
-  pub mesh : r .mesh ≡ counts
-  pub keeps : Keeps (counts .vertices) (counts .triangles) vs ts ws vs' ts' ws'
-
--- a mesh under a matrix: document 01's refusal 5 over the transformed vertices, or accepted
-unfoldable pub movedAs : Mat4 → Mesh → ℕ → ℕ → ℕ → Outcome
-movedAs a m nv nt nw = cond (every vFinite (transform a m .vertices)) (acceptedAs (transform a m) nv nt nw) (refusedAs PointNotFinite nv nt nw)
-
--- a mesh under the operations: no operations leave it untouched
-unfoldable pub placedAs : List TransformOp → ℕ → Bool → Mesh → ℕ → ℕ → ℕ → Outcome
-unfolding movedAs
-placedAs ops count degrees m nv nt nw = cond (ltb 0 count) (movedAs (folded degrees (take count ops)) m nv nt nw) (acceptedAs m nv nt nw)
-
--- a rotated outline's mesh is turned outward first
-abbrev pub turned : Bool → Mesh → Mesh
-turned rotated m = cond rotated (outward m) m
 
 -- refusals 6, 3, 4, 1 and 2 do not apply
 pub record Drawn (j : Job) (nv nw : ℕ) : Type 0 where

@@ -4,12 +4,9 @@ ghost use mathlib.Core.Bool.{false};
 ghost use lib.ListN.{length};
 ghost use Rattle.outcome.specs.Solid.{partsOf};
 ghost use Rattle.outcome.specs.Outcome.{tessellateOf, shortWork};
-ghost use Rattle.tessellate.specs.Gives.{Gives, job};
+ghost use Rattle.outcome.specs.Gives.{Gives, job};
 ghost use Rattle.tessellate.specs.Steps.{Drawable, Welded, Drawn};
-use crate::Tessellated;
-use crate::answers;
-use crate::place;
-use crate::turn;
+use outcome::Tessellated;
 use mesh::TriMesh;
 use refusal::Refusal;
 use shape::CoordSystem;
@@ -67,21 +64,21 @@ pub fn draw(
         r (now (vertices .exit)) (now (triangles .exit)) (now (work .exit)) ⌝ }
 {
     let cylindrical = shape::is_cylindrical(shape::shape_cs(shape, own, default));
-    let rotated = turn::is_rot_poly(shape);
+    let rotated = finish::is_rot_poly(shape);
     let w = weld_all(vertices, triangles, work, shape, list, cylindrical, options);
     let finite = w.finite;
     let room = w.room;
     if !finite {
-        return answers::refuse(Refusal::PointNotFinite, vertices, triangles, work);
+        return finish::refuse(Refusal::PointNotFinite, vertices, triangles, work);
     }
     if !room {
-        return answers::refuse(Refusal::NoRoom, vertices, triangles, work);
+        return finish::refuse(Refusal::NoRoom, vertices, triangles, work);
     }
     let counts = TriMesh {
         vertices: w.count,
         triangles: w.faces,
     };
-    place::complete(
+    finish::complete(
         rotated,
         counts,
         vertices,

@@ -4,26 +4,17 @@ ghost use mathlib.Core.Path.{_≡_};
 ghost use lib.ListN.{length};
 ghost use Rattle.outcome.specs.Outcome.{tessellateOf, shortWork};
 ghost use Rattle.refusal.specs.Number.{numberOf};
-ghost use Rattle.tessellate.specs.Gives.{Gives, job};
+ghost use Rattle.outcome.specs.Gives.{Gives, job};
 
-mod answers;
 mod draw;
-mod place;
-mod turn;
 
-use mesh::TriMesh;
+use outcome::Tessellated;
 use refusal::Refusal;
 use shape::CoordSystem;
 use shape::OwnSystem;
 use shape::Shape;
 use shape::TessellationOptions;
 use transform::TransformOp;
-
-// What the call answers: refused or accepted, and the counts of the mesh, 0 where it was refused.
-pub struct Tessellated {
-    pub refusal: Refusal,
-    pub mesh: TriMesh,
-}
 
 // Refusal 6: fewer than two numbers of work for each whole vertex place.
 fn short_work(vertices: usize, work: usize) -> bool
@@ -66,10 +57,10 @@ pub fn tessellate(
     );
     let number = refusal::number(refusal);
     if short {
-        return answers::refuse(Refusal::ShortWork, vertices, triangles, work);
+        return finish::refuse(Refusal::ShortWork, vertices, triangles, work);
     }
     if 0 < number {
-        return answers::refuse(refusal, vertices, triangles, work);
+        return finish::refuse(refusal, vertices, triangles, work);
     }
     draw::draw(
         shape,

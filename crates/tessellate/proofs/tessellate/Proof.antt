@@ -7,8 +7,8 @@ use Prim.Native.Nat.{_<_}
 use mathlib.Core.Bool.{true, false}
 use Rattle.refusal.specs.Number.{numberOf}
 use Rattle.outcome.specs.Outcome.{jobRefusal, shortWork}
-use Rattle.tessellate.specs.Gives.{job}
-use Rattle.tessellate.proofs.Ending.{gives-as}
+use Rattle.outcome.specs.Gives.{job}
+use Rattle.finish.proofs.Ending.{gives-as}
 use Rattle.tessellate.proofs.Choices.{short, drawing, accepted-zero}
 use borrow.Author.Needs.{needs}
 use Rattle.tessellate.proofs.tessellate.Statement.{statement}

@@ -1,8 +1,8 @@
 -- `tessellate::draw::draw` meets its contract. Assumes nothing.
 use mathlib.Core.Path.{_∙_}
 use denote.Ref.{now}
-use Rattle.tessellate.specs.Gives.{job}
-use Rattle.tessellate.proofs.Ending.{gives-as}
+use Rattle.outcome.specs.Gives.{job}
+use Rattle.finish.proofs.Ending.{gives-as}
 use Rattle.tessellate.proofs.Drawing.{drawable, welded-parts, not-finite, no-room, whole, done}
 use borrow.Author.Needs.{needs}
 use Rattle.tessellate.proofs.draw.draw.Statement.{statement}

@@ -1,0 +1,2 @@
+-- What the contracts of `finish` cite.
+pub mod Ends

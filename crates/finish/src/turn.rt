@@ -1,0 +1,40 @@
+// The end of the case RotPoly: `if m.signed_volume() < 0.0 { m.flip(); }`.
+ghost use mathlib.Core.Path.{_≡_};
+ghost use lib.ListN.{length};
+ghost use Rattle.mesh.specs.State.{state, meshOf, stored, Sound};
+ghost use Rattle.outcome.specs.Solid.{outward};
+ghost use Rattle.finish.specs.Ends.{isRotPoly};
+use mesh::TriMesh;
+use shape::Shape;
+
+// Whether the shape is a rotated outline.
+pub fn is_rot_poly(shape: Shape) -> bool
+    ensures { λ r. ⌜ r ≡ isRotPoly shape ⌝ }
+{
+    match shape {
+        Shape::Box { .. } => false,
+        Shape::MultiBox => false,
+        Shape::Sphere { .. } => false,
+        Shape::SphericalShell { .. } => false,
+        Shape::Cylinder { .. } => false,
+        Shape::CylindricalShell { .. } => false,
+        Shape::Polygon { .. } => false,
+        Shape::LinPoly { .. } => false,
+        Shape::RotPoly { .. } => true,
+        Shape::Wire { .. } => false,
+    }
+}
+
+// Turns every triangle where the signed volume is below 0.
+pub fn turn_outward(counts: TriMesh, vertices: &[f64], triangles: &mut [u32])
+    requires { ⌜ Sound (state counts (now vertices) (now triangles)) ⌝ }
+    ensures { λ _. ⌜ state counts (now (vertices .entry)) (now (triangles .exit))
+        ≡ stored (outward (meshOf (state counts (now (vertices .entry)) (now (triangles .entry))))) (state counts (now (vertices .entry)) (now (triangles .entry))) ⌝ }
+{
+    let k = counts.triangles;
+    let volume = measure::volume_sum(vertices, triangles, k) / 6.0;
+    if volume < 0.0 {
+        moves::turn_all(triangles, k);
+        return;
+    }
+}
