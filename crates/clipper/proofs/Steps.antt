@@ -200,7 +200,8 @@ triangle-gives v e w b a x f h3 hl hx h p =
     let g₀ : getD (held (w .left)) 0 0 ≡ getD (w .left .at) 0 0 = left-at v (w .left .at) (w .left .n) (f .inside) 0 (omega arith) in
     let g₁ : getD (held (w .left)) 1 0 ≡ getD (w .left .at) 1 0 = left-at v (w .left .at) (w .left .n) (f .inside) 1 (omega arith) in
     let g₂ : getD (held (w .left)) 2 0 ≡ getD (w .left .at) 2 0 = left-at v (w .left .at) (w .left .n) (f .inside) 2 (omega arith) in
-    let y : x ≡ cross (point v (getD (held (w .left)) 0 0)) (point v (getD (held (w .left)) 1 0)) (point v (getD (held (w .left)) 2 0)) = cc in
+    let y : x ≡ cross (point v (getD (held (w .left)) 0 0)) (point v (getD (held (w .left)) 1 0)) (point v (getD (held (w .left)) 2 0)) =
+    hx ∙ (λ i. cross (point v (sym g₀ i)) (point v (sym g₁ i)) (point v (sym g₂ i))) in
     let q : finished v e s ≡ record { left = []; triangles = s .triangles ++ take 3 (s .left); removed = s .removed } =
     finished-triangle v e s x y (n ∙ h3) h in
     let m : getD (w .left .at) 0 0 ∷ getD (w .left .at) 1 0 ∷ getD (w .left .at) 2 0 ∷ [] ≡ take 3 (held (w .left)) = rw (← g₀, ← g₁, ← g₂) (three-of (held (w .left)) (n ∙ h3)) in
@@ -219,7 +220,8 @@ flat-gives v e w b x f h3 hx h =
     let g₀ : getD (held (w .left)) 0 0 ≡ getD (w .left .at) 0 0 = left-at v (w .left .at) (w .left .n) (f .inside) 0 (omega arith) in
     let g₁ : getD (held (w .left)) 1 0 ≡ getD (w .left .at) 1 0 = left-at v (w .left .at) (w .left .n) (f .inside) 1 (omega arith) in
     let g₂ : getD (held (w .left)) 2 0 ≡ getD (w .left .at) 2 0 = left-at v (w .left .at) (w .left .n) (f .inside) 2 (omega arith) in
-    let y : x ≡ cross (point v (getD (held (w .left)) 0 0)) (point v (getD (held (w .left)) 1 0)) (point v (getD (held (w .left)) 2 0)) = cc in
+    let y : x ≡ cross (point v (getD (held (w .left)) 0 0)) (point v (getD (held (w .left)) 1 0)) (point v (getD (held (w .left)) 2 0)) =
+    hx ∙ (λ i. cross (point v (sym g₀ i)) (point v (sym g₁ i)) (point v (sym g₂ i))) in
     let q : finished v e s ≡ s = finished-flat v e s x y (n ∙ h3) h in
     gives (finished v e s) (record { triangles = w .triangles; removed = w .removed }) b b
     (ap (λ (r : State). r .triangles) (sym q)) refl (omega (arith, f .room)) (ap (λ (r : State). r .removed) (sym q))

@@ -1,6 +1,7 @@
 -- `clipper::finish` meets its contract. Assumes nothing.
 use denote.Ref.{now}
 use mathlib.Core.Path.{_≡_, refl, sym, ap, _∙_}
+use native.Mathlib.Nat.{le-refl, le-add-right}
 use native.Mathlib.Omega.{arith}
 use lib.ListN.{getD}
 use Rattle.outline.specs.Corners.{point}
@@ -38,16 +39,17 @@ add-t27 : tie.Need-add-t27
 add-t27 c = search needs
 
 same-length : tie.Need-same-length
-same-length c = search needs
+same-length c = c .before .out .given
 
 returns : tie.Need-returns
 returns c =
     let d = c .before .before .before .before .before .before .before .before .before .before .before .before .before .before .before .before in
     let a = d .args in
     let v = now (a .corners) in
-    let x : c .before .before .before .before .before .cross .result ≡ cross (point v (getD (a .w .left .at) 0 0)) (point v (getD (a .w .left .at) 1 0))
-    (point v (getD (a .w .left .at) 2 0)) = cc in (
-      omega arith,
+    let r = c .before .before .before .before .before in
+    let x : r .cross .result ≡ cross (point v (getD (a .w .left .at) 0 0)) (point v (getD (a .w .left .at) 1 0)) (point v (getD (a .w .left .at) 2 0)) =
+    r .cross .ensures ∙ (λ i. cross (r .before .before .before .place .ensures i) (r .before .before .place2 .ensures i) (r .before .place3 .ensures i)) in (
+      le-add-right (a .w .triangles) 1,
       triangle-gives v (a .e) (a .w) (now (a .out)) _ _ (d .pre .1)
           (c .before .before .before .before .before .before .before .before .before .before .before .before .if1 .taken) (c .before .before .put .kept .0) x
           (c .before .before .before .before .if2 .taken) (c .before .before .put .ensures),
@@ -58,11 +60,13 @@ returns-2 c =
     let d = c .before .before .before .before .before .before .before .before .before .before .before .before in
     let a = d .args in
     let v = now (a .corners) in
-    let x : c .before .cross .result ≡ cross (point v (getD (a .w .left .at) 0 0)) (point v (getD (a .w .left .at) 1 0)) (point v (getD (a .w .left .at) 2 0)) = cc in
-    (omega arith, flat-gives v (a .e) (a .w) (now (a .out)) _ (d .pre .1) (c .before .before .before .before .before .before .before .before .if1 .taken) x (c .if2 .left))
+    let r = c .before in
+    let x : r .cross .result ≡ cross (point v (getD (a .w .left .at) 0 0)) (point v (getD (a .w .left .at) 1 0)) (point v (getD (a .w .left .at) 2 0)) =
+    r .cross .ensures ∙ (λ i. cross (r .before .before .before .place .ensures i) (r .before .before .place2 .ensures i) (r .before .place3 .ensures i)) in
+    (le-refl (a .w .triangles), flat-gives v (a .e) (a .w) (now (a .out)) _ (d .pre .1) (c .before .before .before .before .before .before .before .before .if1 .taken) x (c .if2 .left))
 
 returns-3 : tie.Need-returns-3
-returns-3 c = let d = c .before .before .before .before in (omega arith, few-gives (now (d .args .corners)) (d .args .e) (d .args .w) (now (d .args .out)) (d .pre .1) (c .if1 .left))
+returns-3 c = let d = c .before .before .before .before in (le-refl (d .args .w .triangles), few-gives (now (d .args .corners)) (d .args .e) (d .args .w) (now (d .args .out)) (d .pre .1) (c .if1 .left))
 
 pub finish-spec : {M : Type 1} → statement M
 finish-spec =
