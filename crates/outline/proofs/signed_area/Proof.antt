@@ -47,7 +47,8 @@ loop-again c =
     let v = now (c .before .before .before .before .before .before .args .v) in
     let n = length v / 2 in
     let l = c .before .before .before .before .loop in
-    let w : c .wedge .result ≡ wedge (point v (l .i)) (point v ((l .i + 1) % n)) = cc in (
+    let w : c .wedge .result ≡ wedge (point v (l .i)) (point v ((l .i + 1) % n)) =
+    c .wedge .ensures ∙ (λ i. wedge (c .before .before .corner .ensures i) (c .before .corner2 .ensures i)) in (
       omega arith,
       ap (λ (x : Float). sides v n (add binary64 (l .s) x) (l .i + 1) (n - (l .i + 1))) w ∙ sym (sides-next v n (l .s) (l .i) (c .before .before .before .loop-test .taken)) ∙ l .inv .1,
     )

@@ -41,14 +41,16 @@ loop-again : tie.Need-loop-again Inv-loop μ-loop
 loop-again c =
     let o = now (c .before .before .before .before .before .before .before .args .out) in
     let l = c .before .before .before .before .before .loop in
-    let h : same (point o 0) (point o (l .k - 1)) ≡ true = cc in
+    let h : same (point o 0) (point o (l .k - 1)) ≡ true =
+    sym (c .before .same .ensures ∙ (λ i. same (c .before .before .before .corner .ensures i) (c .before .before .corner2 .ensures i))) ∙ c .if1 .taken in
     (omega arith, sym (stay-next o (l .k) (c .before .before .before .before .loop-test .taken) h) ∙ l .inv .1)
 
 returns : tie.Need-returns Inv-loop μ-loop
 returns c =
     let o = now (c .before .before .before .before .before .before .before .args .out) in
     let l = c .before .before .before .before .before .loop in
-    let h : same (point o 0) (point o (l .k - 1)) ≡ false = cc in
+    let h : same (point o 0) (point o (l .k - 1)) ≡ false =
+    sym (c .before .same .ensures ∙ (λ i. same (c .before .before .before .corner .ensures i) (c .before .before .corner2 .ensures i))) ∙ c .if1 .left in
     (sym (stay-stop o (l .k) (c .before .before .before .before .loop-test .taken) h) ∙ l .inv .1, l .inv .0)
 
 returns-2 : tie.Need-returns-2 Inv-loop μ-loop
