@@ -16,7 +16,8 @@ wraps-requires : tie.Need-wraps-requires
 wraps-requires c κs = search needs
 
 returns : tie.Need-returns
-returns c = cc
+returns c i =
+    record { lo = c .before .before .before .axis .ensures i; hi = c .before .before .axis2 .ensures i; n = c .before .cuts .ensures i; periodic = c .wraps .ensures i }
 
 pub line-of-spec : {M : Type 1} → statement M
 line-of-spec =
