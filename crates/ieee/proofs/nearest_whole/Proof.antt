@@ -1,9 +1,10 @@
 -- `ieee::nearest_whole` meets its contract: a law for each way through its tests. Assumes nothing.
 use borrow.Author.Needs.{needs}
-use mathlib.Core.Path.{sym, subst}
+use mathlib.Core.Path.{sym, ap, subst, _∙_}
+use Prim.Native.Nat.{_%_}
 use lib.Dec.{T}
-use lib.Ieee.{binary64, fits, ofBits, neg}
-use Rattle.ieee.proofs.Near.{near-neg-asks, near-neg, near-pos-asks, near-pos}
+use lib.Ieee.{Float, binary64, fits, ofBits, neg}
+use Rattle.ieee.proofs.Near.{whole, near-neg-asks, near-neg, near-pos-asks, near-pos}
 use Rattle.ieee.proofs.Far.{mid-neg-cut, mid-neg, huge-neg, mid-pos-cut, mid-pos, huge-pos}
 use Rattle.ieee.proofs.nearest_whole.Statement.{statement}
 use Rattle.ieee.proofs.nearest_whole.Tie as tie
@@ -48,8 +49,8 @@ unfolding ofBits neg
 returns c =
     let called = c .before .before in
     let tested = called .before in
-    let h = near-neg (tested .before .before .args .p) (called .half-up .result) (tested .before .if1 .taken) (tested .if2 .taken) (called .half-up .ensures .0) in
-    cc h
+    (λ i. whole (c .before .back .ensures i) (c .quarter-back .ensures i))
+    ∙ near-neg (tested .before .before .args .p) (called .half-up .result) (tested .before .if1 .taken) (tested .if2 .taken) (called .half-up .ensures .0)
 
 returns-2 : tie.Need-returns-2
 unfolding ofBits neg
@@ -57,9 +58,9 @@ returns-2 c =
     let called = c .before in
     let tested = called .before in
     let start = tested .before .before .before in
-    let h = mid-neg (start .args .p) (called .truncating-f64-to-u64 .result) (held start) (tested .before .before .if1 .taken) (tested .before .if2 .left) (tested .if3 .taken)
-    (called .truncating-f64-to-u64 .ensures) in
-    cc h
+    ap (whole (start .args .p)) (c .quarter-back2 .ensures)
+    ∙ mid-neg (start .args .p) (called .truncating-f64-to-u64 .result) (held start) (tested .before .before .if1 .taken) (tested .before .if2 .left) (tested .if3 .taken)
+    (called .truncating-f64-to-u64 .ensures)
 
 returns-3 : tie.Need-returns-3
 unfolding ofBits neg
@@ -70,8 +71,8 @@ unfolding ofBits
 returns-4 c =
     let called = c .before in
     let tested = called .before in
-    let h = near-pos (tested .before .before .args .p) (called .half-up2 .result) (tested .before .if1 .left) (tested .if4 .taken) (called .half-up2 .ensures .0) in
-    cc h
+    ap (λ (x : Float). whole x (called .half-up2 .result % 4)) (c .forth .ensures)
+    ∙ near-pos (tested .before .before .args .p) (called .half-up2 .result) (tested .before .if1 .left) (tested .if4 .taken) (called .half-up2 .ensures .0)
 
 returns-5 : tie.Need-returns-5
 unfolding ofBits
