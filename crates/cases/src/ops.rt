@@ -4,7 +4,7 @@ ghost use Prim.Native.Nat.{_+_, _≤_};
 ghost use lib.ListN.{length};
 ghost use Rattle.cases.specs.Layout.{opAt, vecAt, rowAt, matrixAt};
 use crate::floats;
-use math::Row;
+use matrix::Row;
 use math::Vec3;
 use transform::TransformOp;
 

@@ -7,7 +7,7 @@ use Prim.Native.Nat.{ℕ}
 use lib.ListN.{take}
 use lib.Dec.{ltb}
 use lib.Ieee.{binary64, lt, ofBits}
-use Rattle.math.specs.declared.Mat4.{Mat4}
+use Rattle.matrix.specs.declared.Mat4.{Mat4}
 use Rattle.transform.specs.Ops.{folded}
 use Rattle.trimesh.specs.Mesh.{Mesh, noMesh, append, flip, fromSoup, appendParts, fromParts}
 use Rattle.trimesh.specs.Edits.{transform}

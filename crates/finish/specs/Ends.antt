@@ -6,7 +6,7 @@ use Prim.Native.Nat.{ℕ, _*_}
 use lib.ListN.{length, take}
 use lib.Dec.{ltb}
 use lib.Ieee.{Float, binary64, ofBits}
-use Rattle.math.specs.declared.Mat4.{Mat4}
+use Rattle.matrix.specs.declared.Mat4.{Mat4}
 use Rattle.math.specs.Vec.{vFinite}
 use Rattle.transform.specs.declared.TransformOp.{TransformOp}
 use Rattle.transform.specs.Ops.{folded}

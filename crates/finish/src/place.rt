@@ -8,7 +8,7 @@ ghost use Rattle.finish.specs.Ends.{movedAs, placedAs, turned, Whole};
 use outcome::Tessellated;
 use crate::answers;
 use crate::turn;
-use math::Mat4;
+use matrix::Mat4;
 use mesh::TriMesh;
 use refusal::Refusal;
 use transform::TransformOp;
@@ -22,7 +22,7 @@ fn move_mesh(counts: TriMesh, vertices: &mut [f64], triangles: &mut [u32], a: Ma
     let n = counts.vertices;
     let k = counts.triangles;
     moves::move_all(vertices, n, a);
-    if math::determinant(a) < 0.0 {
+    if matrix::determinant(a) < 0.0 {
         moves::turn_all(triangles, k);
         return;
     }

@@ -1,5 +1,4 @@
 -- The definitions that the contracts of `math` cite, and laws of them.
 pub mod Vec
-pub mod Mat
 pub mod Box
 pub mod Laws

@@ -1,19 +1,9 @@
-// Points and directions, matrices of four rows and columns, and boxes along the axes: src/math.rs.
+// Points and directions, and boxes along the axes: src/math.rs.
 mod bbox;
-mod mat;
 mod vec;
 
 pub use bbox::empty_box;
 pub use bbox::include;
-pub use mat::determinant;
-pub use mat::from_rows;
-pub use mat::identity;
-pub use mat::new_row;
-pub use mat::product;
-pub use mat::rotation;
-pub use mat::scaling;
-pub use mat::transform_point;
-pub use mat::translation;
 pub use vec::add;
 pub use vec::axis;
 pub use vec::cross;
@@ -35,19 +25,6 @@ pub struct Vec3 {
     pub x: f64,
     pub y: f64,
     pub z: f64,
-}
-
-// A row of a matrix.
-pub struct Row {
-    pub a: f64,
-    pub b: f64,
-    pub c: f64,
-    pub d: f64,
-}
-
-// Four rows of four numbers, row after row. The translation is in the last column.
-pub struct Mat4 {
-    pub m: [f64; 16],
 }
 
 // The box from one corner to the other. It is empty where min is above max on an axis.

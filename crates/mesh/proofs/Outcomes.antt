@@ -10,8 +10,8 @@ use lib.Ieee.{Float, binary64, lt, ofBits, toBits}
 use lib.Ieee.Scale.{finite}
 use borrow.Author.Tests.{lt-ltb, le-ltb}
 use Rattle.math.specs.declared.Vec3.{Vec3}
-use Rattle.math.specs.declared.Mat4.{Mat4}
-use Rattle.math.specs.Mat.{transformPoint, determinant}
+use Rattle.matrix.specs.declared.Mat4.{Mat4}
+use Rattle.matrix.specs.Mat.{transformPoint, determinant}
 use Rattle.math.specs.Vec.{vFinite}
 use Rattle.transform.specs.declared.TransformOp.{TransformOp}
 use Rattle.transform.specs.Ops.{folded}

@@ -7,8 +7,8 @@ use lib.ListN.{length, take, drop, length-append, length-map, take-append-drop}
 use lib.Seq.{paste, length-take-le}
 use lib.Ieee.{Float}
 use Rattle.math.specs.declared.Vec3.{Vec3}
-use Rattle.math.specs.declared.Mat4.{Mat4}
-use Rattle.math.specs.Mat.{transformPoint}
+use Rattle.matrix.specs.declared.Mat4.{Mat4}
+use Rattle.matrix.specs.Mat.{transformPoint}
 use Rattle.balance.specs.Soup.{Tri, mapTri}
 use Rattle.balance.specs.Soup.{flip as flipTri}
 use Rattle.balance.specs.Buffer.{flat, tris, flat-append}

@@ -6,7 +6,7 @@ use mathlib.Core.List.{List, [], _∷_}
 use Prim.Native.Nat.{ℕ}
 use lib.ListN.{take}
 use lib.Dec.{eqb}
-use Rattle.math.specs.declared.Mat4.{Mat4}
+use Rattle.matrix.specs.declared.Mat4.{Mat4}
 use Rattle.transform.specs.declared.TransformOp.{TransformOp}
 use Rattle.transform.specs.Ops.{folded}
 use Rattle.trimesh.specs.Mesh.{Mesh, append, flip}

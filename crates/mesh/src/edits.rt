@@ -80,7 +80,7 @@ pub fn transform(
     }
     let a = transform::fold(ops, op_count, degrees);
     moves::move_finite(vertices, n, a);
-    if math::determinant(a) < 0.0 {
+    if matrix::determinant(a) < 0.0 {
         moves::turn_all(triangles, k);
         return Edited { refusal, mesh };
     }

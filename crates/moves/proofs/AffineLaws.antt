@@ -11,9 +11,9 @@ use lib.Ieee.{Float, nan, binary64, add, mul, eq, ne, fits}
 use lib.Ieee.Scale.{finite}
 use Rattle.ieee.specs.Same.{isZero, Same, plusZero, plus-zero, add-same, mul-zero-l, zero-add-same, eq→same, true-T}
 use Rattle.math.specs.declared.Vec3.{Vec3}
-use Rattle.math.specs.declared.Mat4.{Mat4}
+use Rattle.matrix.specs.declared.Mat4.{Mat4}
 use Rattle.math.specs.Vec.{one}
-use Rattle.math.specs.Mat.{entry, rowOf, along, overW, transformPoint}
+use Rattle.matrix.specs.Mat.{entry, rowOf, along, overW, transformPoint}
 use Rattle.slices.specs.Every.{every}
 use Rattle.trimesh.specs.Slices.{vecOf}
 use Rattle.triples.specs.Triples.{eachTo, vertexAt, movedTriple}

@@ -9,9 +9,9 @@ use lib.Ieee.{Float}
 use lib.Ieee.Scale.{finite}
 use Rattle.ieee.specs.Same.{isZero}
 use Rattle.math.specs.declared.Vec3.{Vec3}
-use Rattle.math.specs.declared.Mat4.{Mat4}
+use Rattle.matrix.specs.declared.Mat4.{Mat4}
 use Rattle.math.specs.Vec.{one, new}
-use Rattle.math.specs.Mat.{entry, rowOf, along}
+use Rattle.matrix.specs.Mat.{entry, rowOf, along}
 use Rattle.slices.specs.Every.{every}
 
 -- the last row is 0 0 0 1; either zero will do

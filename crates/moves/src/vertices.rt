@@ -4,13 +4,13 @@ ghost use mathlib.Core.List.{map};
 ghost use Prim.Native.Nat.{_*_, _≤_};
 ghost use lib.ListN.{length, take};
 ghost use Rattle.math.specs.Vec.{vFinite};
-ghost use Rattle.math.specs.Mat.{transformPoint};
+ghost use Rattle.matrix.specs.Mat.{transformPoint};
 ghost use Rattle.trimesh.specs.Slices.{points};
 ghost use Rattle.slices.specs.Every.{every};
 ghost use Rattle.triples.specs.Triples.{eachTo, movedTriple};
 ghost use Rattle.moves.specs.Affine.{FiniteVertices};
 use crate::affine;
-use math::Mat4;
+use matrix::Mat4;
 use triples::put_vertex;
 use triples::vertex;
 
@@ -22,7 +22,7 @@ fn stay_finite_divided(vertices: &[f64], n: usize, a: Mat4) -> bool
     let mut ok = true;
     let mut i = 0;
     while i < n {
-        ok = ok & math::is_finite(math::transform_point(a, vertex(vertices, i)));
+        ok = ok & math::is_finite(matrix::transform_point(a, vertex(vertices, i)));
         i += 1;
     }
     ok
@@ -35,7 +35,7 @@ fn move_divided(vertices: &mut [f64], n: usize, a: Mat4)
 {
     let mut i = 0;
     while i < n {
-        let p = math::transform_point(a, vertex(vertices, i));
+        let p = matrix::transform_point(a, vertex(vertices, i));
         put_vertex(vertices, i, p);
         i += 1;
     }

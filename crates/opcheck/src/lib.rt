@@ -3,7 +3,7 @@ ghost use mathlib.Core.Path.{_≡_};
 ghost use lib.ListN.{take};
 ghost use Rattle.transform.specs.Angle as Angle;
 ghost use Rattle.transform.specs.Checks as Checks;
-use math::Row;
+use matrix::Row;
 use transform::Radians;
 use transform::TransformOp;
 

@@ -9,7 +9,7 @@ use lib.Ieee.{Float, nan, binary64, add, sub, mul, div, neg, ofInt, ofBits, eq, 
 use Rattle.ieee.specs.Number.{minimum, maximum, absolute}
 use Rattle.math.specs.declared.Vec3.{Vec3}
 use Rattle.math.specs.Vec.{new, axis, withAxis, vMin, vMax, vFinite}
-use Rattle.math.specs.Mat.{fromRows, identity, scaling, timesRows, productRow, product, along, overW, transformPoint, detRows, determinant}
+use Rattle.matrix.specs.Mat.{fromRows, identity, scaling, timesRows, productRow, product, along, overW, transformPoint, detRows, determinant}
 use Rattle.refusal.specs.declared.Refusal.the-variants.{Accepted, NotFinite, AngleTooLarge, TooManySegments, BadList, PointNotFinite, ShortWork, NoRoom}
 use Rattle.transform.specs.declared.TransformOp.{TransformOp}
 use Rattle.transform.specs.declared.TransformOp.the-variants.{Scale}

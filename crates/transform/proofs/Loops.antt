@@ -9,8 +9,8 @@ use native.Mathlib.Nat.{eq-or-lt-of-le}
 use native.Mathlib.Omega.{arith}
 use lib.ListN.{length, take, getD}
 use lib.Seq.{take-suc, take-all}
-use Rattle.math.specs.declared.Mat4.{Mat4}
-use Rattle.math.specs.Mat.{identity, product}
+use Rattle.matrix.specs.declared.Mat4.{Mat4}
+use Rattle.matrix.specs.Mat.{identity, product}
 use Rattle.transform.specs.declared.TransformOp.{TransformOp}
 use Rattle.transform.specs.Ops.{opMatrix, foldFrom, folded}
 use Rattle.slices.specs.Every.{every}

@@ -5,7 +5,7 @@ use mathlib.Core.List.{List}
 use lib.Dec.{leb}
 use lib.Ieee.Scale.{finite}
 use Rattle.slices.specs.Every.{every}
-use Rattle.math.specs.declared.Row.{Row}
+use Rattle.matrix.specs.declared.Row.{Row}
 use Rattle.math.specs.Vec.{vFinite}
 use Rattle.transform.specs.declared.TransformOp.{TransformOp}
 use Rattle.transform.specs.declared.TransformOp.the-variants.{Translate, RotateOrigin, RotateX, RotateY, RotateZ, Scale, Scale3, Matrix}

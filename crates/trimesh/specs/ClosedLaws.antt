@@ -8,8 +8,8 @@ use lib.ListN.{length}
 use lib.Dec.{eqb, leb}
 use lib.Ieee.{binary64, lt, ofBits}
 use borrow.Author.Tests.{eq-eqb, ne-eqb, eqb-true, eqb-false, leb-true, leb-false}
-use Rattle.math.specs.declared.Mat4.{Mat4}
-use Rattle.math.specs.Mat.{determinant}
+use Rattle.matrix.specs.declared.Mat4.{Mat4}
+use Rattle.matrix.specs.Mat.{determinant}
 use Rattle.balance.specs.Soup.{Tri, Weight, sum, mapTri, sum-append, sum-map, sum-flip}
 use Rattle.balance.specs.Soup.{flip as flipTri}
 use Rattle.balance.specs.Count.{edges, uses, here, uses-sum, here-rev, Closed as Even}

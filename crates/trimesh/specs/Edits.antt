@@ -2,8 +2,8 @@
 use mathlib.Core.Bool.{cond}
 use mathlib.Core.List.{map}
 use lib.Ieee.{binary64, lt, ofBits}
-use Rattle.math.specs.declared.Mat4.{Mat4}
-use Rattle.math.specs.Mat.{transformPoint, determinant}
+use Rattle.matrix.specs.declared.Mat4.{Mat4}
+use Rattle.matrix.specs.Mat.{transformPoint, determinant}
 use Rattle.trimesh.specs.Mesh.{Mesh, flip}
 
 -- the first loop of TriMesh::transform: `*v = m.transform_point(*v)` for every vertex

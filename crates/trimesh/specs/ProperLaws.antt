@@ -8,8 +8,8 @@ use lib.ListN.{length, length-append, length-map}
 use lib.Dec.{T, eqb, ltb, ltb→lt, lt→ltb}
 use lib.Ieee.{binary64, lt, ofBits}
 use borrow.Author.Tests.{eq-eqb, ne-eqb, eqb-true, eqb-false}
-use Rattle.math.specs.declared.Mat4.{Mat4}
-use Rattle.math.specs.Mat.{transformPoint, determinant}
+use Rattle.matrix.specs.declared.Mat4.{Mat4}
+use Rattle.matrix.specs.Mat.{transformPoint, determinant}
 use Rattle.balance.specs.Soup.{Tri, mapTri}
 use Rattle.trimesh.specs.Mesh.{Mesh, append, flip, distinct}
 use Rattle.trimesh.specs.Edits.{moved, transform}

@@ -4,8 +4,8 @@ use Prim.Native.Nat.{ℕ, _+_, _*_, _≤_, _<_}
 use lib.ListN.{length, take, drop, getD, set}
 use lib.Ieee.{Float, nan}
 use Rattle.math.specs.declared.Vec3.{Vec3}
-use Rattle.math.specs.declared.Mat4.{Mat4}
-use Rattle.math.specs.Mat.{transformPoint}
+use Rattle.matrix.specs.declared.Mat4.{Mat4}
+use Rattle.matrix.specs.Mat.{transformPoint}
 use Rattle.balance.specs.Soup.{Tri, mapTri}
 use Rattle.trimesh.specs.Slices.{triOf, vecOf}
 use Rattle.balance.specs.Buffer.{flat, tris}

@@ -3,7 +3,7 @@ use mathlib.Core.Path.{_≡_, refl, sym, ap, _∙_}
 use denote.Ref.{now}
 use lib.ListN.{length}
 use Rattle.outcome.specs.Outcome.{Outcome}
-use Rattle.math.specs.declared.Mat4.{Mat4}
+use Rattle.matrix.specs.declared.Mat4.{Mat4}
 use Rattle.mesh.specs.State.{state, meshOf}
 use Rattle.finish.specs.Ends.{movedAs}
 use Rattle.finish.proofs.Ending.{gives-as, closes-gives}

@@ -7,8 +7,8 @@ use lib.ListN.{take}
 use lib.Dec.{eqb}
 use lib.Ieee.{Float, binary64, lt, ofBits}
 use borrow.Author.Tests.{not-true, not-false, eq-eqb, ne-eqb}
-use Rattle.math.specs.declared.Mat4.{Mat4}
-use Rattle.math.specs.Mat.{determinant}
+use Rattle.matrix.specs.declared.Mat4.{Mat4}
+use Rattle.matrix.specs.Mat.{determinant}
 use Rattle.transform.specs.Ops.{folded}
 use Rattle.balance.specs.Soup.{flip as flipTri}
 use Rattle.trimesh.specs.Mesh.{Mesh}

@@ -1,6 +1,6 @@
 -- `moves::affine::affine_point` meets its contract. Assumes nothing.
 use mathlib.Core.Path.{refl}
-use Rattle.math.specs.Mat.{along}
+use Rattle.matrix.specs.Mat.{along}
 use Rattle.moves.specs.Affine.{affinePoint}
 use borrow.Author.Needs.{needs}
 use Rattle.moves.proofs.affine.affine_point.Statement.{statement}

@@ -6,7 +6,7 @@ use Prim.Native.Nat.{_≤_, _<_, _-_, _+_, _*_}
 use lib.ListN.{length}
 use lib.Ieee.{Float, nan}
 use Rattle.math.specs.declared.Vec3.{Vec3}
-use Rattle.math.specs.Mat.{transformPoint}
+use Rattle.matrix.specs.Mat.{transformPoint}
 use Rattle.trimesh.specs.Slices.{triOf}
 use Rattle.triples.specs.Triples.{eachTo, putTriple, movedTriple}
 use Rattle.triples.proofs.Each.{each-none, length-each, each-turn, each-end}

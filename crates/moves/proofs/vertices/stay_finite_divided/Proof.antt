@@ -7,7 +7,7 @@ use Prim.Native.Nat.{_≤_, _<_, _-_, _+_, _*_}
 use lib.ListN.{length, take, drop, length-map}
 use lib.Seq.{length-take-le}
 use Rattle.math.specs.Vec.{vFinite}
-use Rattle.math.specs.Mat.{transformPoint}
+use Rattle.matrix.specs.Mat.{transformPoint}
 use Rattle.trimesh.specs.Slices.{points}
 use Rattle.trimesh.specs.SliceLaws.{length-points}
 use Rattle.slices.specs.Every.{every}

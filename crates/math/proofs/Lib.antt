@@ -1,2 +1,0 @@
--- What the proofs of `math` share.
-pub mod Made

@@ -1,0 +1,2 @@
+-- The definitions that the contracts of `matrix` cite.
+pub mod Mat
