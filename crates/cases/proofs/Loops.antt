@@ -6,7 +6,7 @@ use native.Mathlib.Numerals.{add-one}
 use lib.ListN.{length, take, set, getD, length-set}
 use lib.Seq.{take-suc-set}
 use lib.Ieee.{Float, nan, binary64, toBits}
-use Rattle.cases.specs.Bytes.{wordAt, withWord, withLong}
+use Rattle.words.specs.Bytes.{wordAt, withWord, withLong}
 use Rattle.cases.specs.Layout.{floatAt}
 use Rattle.cases.specs.Lists.{floatsOf, wordsOf, withFloats, withWords}
 

@@ -10,7 +10,7 @@ use Rattle.matrix.specs.declared.Row.{Row}
 use Rattle.transform.specs.declared.TransformOp.{TransformOp}
 use Rattle.transform.specs.declared.TransformOp.the-variants.{Translate, RotateOrigin, RotateX, RotateY, RotateZ, Scale, Scale3, Matrix}
 use Rattle.cases.specs.declared.head.Head.{Head}
-use Rattle.cases.specs.Bytes.{wordAt, longAt}
+use Rattle.words.specs.Bytes.{wordAt, longAt}
 
 -- the head of a case
 unfoldable pub headOf : List ℕ → Head

@@ -1,4 +1,3 @@
 -- The definitions that the contracts of `cases` cite.
-pub mod Bytes
 pub mod Layout
 pub mod Lists

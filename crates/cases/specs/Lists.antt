@@ -3,7 +3,7 @@ use mathlib.Core.List.{List, [], _∷_, _++_}
 use Prim.Native.Nat.{ℕ, suc, zero, _*_}
 use lib.ListN.{getD}
 use lib.Ieee.{Float, binary64, toBits, nan}
-use Rattle.cases.specs.Bytes.{wordAt, withWord, withLong}
+use Rattle.words.specs.Bytes.{wordAt, withWord, withLong}
 use Rattle.cases.specs.Layout.{floatAt}
 
 -- the first n floats

@@ -3,7 +3,6 @@ ghost use mathlib.Core.Path.{_≡_};
 ghost use Prim.Native.Nat.{_≤_};
 ghost use lib.ListN.{length};
 ghost use Rattle.cases.specs.Layout.{headOf};
-use crate::bytes;
 
 pub struct Head {
     pub what: u8,
@@ -38,15 +37,15 @@ pub fn head_of(b: &[u8]) -> Head
         degrees: b[4],
         norm_dir: b[5],
         rot_axis_dir: b[6],
-        segments: bytes::word_at(b, 8),
-        sphere_rings: bytes::word_at(b, 12),
-        vertex_floats: bytes::word_at(b, 16),
-        triangle_numbers: bytes::word_at(b, 20),
-        work_numbers: bytes::word_at(b, 24),
-        op_count: bytes::word_at(b, 28),
-        list_floats: bytes::word_at(b, 32),
-        loaded_numbers: bytes::word_at(b, 36),
-        vertex_count: bytes::word_at(b, 40),
-        triangle_count: bytes::word_at(b, 44),
+        segments: words::word_at(b, 8),
+        sphere_rings: words::word_at(b, 12),
+        vertex_floats: words::word_at(b, 16),
+        triangle_numbers: words::word_at(b, 20),
+        work_numbers: words::word_at(b, 24),
+        op_count: words::word_at(b, 28),
+        list_floats: words::word_at(b, 32),
+        loaded_numbers: words::word_at(b, 36),
+        vertex_count: words::word_at(b, 40),
+        triangle_count: words::word_at(b, 44),
     }
 }

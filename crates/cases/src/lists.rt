@@ -3,8 +3,6 @@ ghost use mathlib.Core.Path.{_≡_};
 ghost use Prim.Native.Nat.{_*_, _≤_};
 ghost use lib.ListN.{length};
 ghost use Rattle.cases.specs.Lists.{floatsOf, wordsOf, withFloats, withWords};
-use crate::bytes;
-use crate::floats;
 
 // Reads as many floats as out has.
 pub fn get_floats(b: &[u8], out: &mut [f64])
@@ -13,7 +11,7 @@ pub fn get_floats(b: &[u8], out: &mut [f64])
 {
     let mut i = 0;
     while i < out.len() {
-        out[i] = floats::float_at(b, 8 * i);
+        out[i] = words::float_at(b, 8 * i);
         i += 1;
     }
 }
@@ -25,7 +23,7 @@ pub fn get_words(b: &[u8], out: &mut [u32])
 {
     let mut i = 0;
     while i < out.len() {
-        out[i] = bytes::word_at(b, 4 * i);
+        out[i] = words::word_at(b, 4 * i);
         i += 1;
     }
 }
@@ -37,7 +35,7 @@ pub fn put_floats(v: &[f64], b: &mut [u8])
 {
     let mut i = 0;
     while i < v.len() {
-        floats::put_float(b, 8 * i, v[i]);
+        words::put_float(b, 8 * i, v[i]);
         i += 1;
     }
 }
@@ -49,7 +47,7 @@ pub fn put_words(v: &[u32], b: &mut [u8])
 {
     let mut i = 0;
     while i < v.len() {
-        bytes::put_word(b, 4 * i, v[i]);
+        words::put_word(b, 4 * i, v[i]);
         i += 1;
     }
 }

@@ -3,7 +3,6 @@ ghost use mathlib.Core.Path.{_≡_};
 ghost use Prim.Native.Nat.{_+_, _≤_};
 ghost use lib.ListN.{length};
 ghost use Rattle.cases.specs.Layout.{opAt, vecAt, rowAt, matrixAt};
-use crate::floats;
 use matrix::Row;
 use math::Vec3;
 use transform::TransformOp;
@@ -14,9 +13,9 @@ pub fn vec_at(b: &[u8], at: usize) -> Vec3
     ensures { λ r. ⌜ r ≡ vecAt (now (b .entry)) at ⌝ }
 {
     Vec3 {
-        x: floats::float_at(b, at),
-        y: floats::float_at(b, at + 8),
-        z: floats::float_at(b, at + 16),
+        x: words::float_at(b, at),
+        y: words::float_at(b, at + 8),
+        z: words::float_at(b, at + 16),
     }
 }
 
@@ -26,10 +25,10 @@ fn row_at(b: &[u8], at: usize) -> Row
     ensures { λ r. ⌜ r ≡ rowAt (now (b .entry)) at ⌝ }
 {
     Row {
-        a: floats::float_at(b, at),
-        b: floats::float_at(b, at + 8),
-        c: floats::float_at(b, at + 16),
-        d: floats::float_at(b, at + 24),
+        a: words::float_at(b, at),
+        b: words::float_at(b, at + 8),
+        c: words::float_at(b, at + 16),
+        d: words::float_at(b, at + 24),
     }
 }
 
@@ -54,11 +53,11 @@ pub fn op_at(b: &[u8], at: usize) -> TransformOp
     let n = at + 8;
     match b[at] {
         1 => TransformOp::Translate(vec_at(b, n)),
-        2 => TransformOp::RotateOrigin(vec_at(b, n), floats::float_at(b, n + 24)),
-        3 => TransformOp::RotateX(floats::float_at(b, n)),
-        4 => TransformOp::RotateY(floats::float_at(b, n)),
-        5 => TransformOp::RotateZ(floats::float_at(b, n)),
-        6 => TransformOp::Scale(floats::float_at(b, n)),
+        2 => TransformOp::RotateOrigin(vec_at(b, n), words::float_at(b, n + 24)),
+        3 => TransformOp::RotateX(words::float_at(b, n)),
+        4 => TransformOp::RotateY(words::float_at(b, n)),
+        5 => TransformOp::RotateZ(words::float_at(b, n)),
+        6 => TransformOp::Scale(words::float_at(b, n)),
         7 => TransformOp::Scale3(vec_at(b, n)),
         _ => matrix_at(b, n),
     }

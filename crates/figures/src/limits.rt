@@ -28,7 +28,7 @@ fn segments(v: &mut [f64], t: &mut [u32], work: &mut [u32]) {
 
 fn angles(v: &mut [f64], t: &mut [u32], work: &mut [u32]) {
     // 1000.0 has the bits 408F400000000000.
-    let next = cases::from_bits(0x408F400000000001);
+    let next = words::from_bits(0x408F400000000001);
     turned(b"1000", 1000.0, v, t, work);
     turned(b"the float after 1000", next, v, t, work);
 }

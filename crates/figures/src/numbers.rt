@@ -28,5 +28,5 @@ pub fn all() {
     arc(b"TAU", TAU);
     root(b"4", 4.0);
     root(b"-0", -0.0);
-    root(b"2^-1074", cases::from_bits(1));
+    root(b"2^-1074", words::from_bits(1));
 }

@@ -93,7 +93,7 @@ fn unit_spheres(v: &mut [f64], t: &mut [u32], work: &mut [u32]) {
 }
 
 pub fn spheres(v: &mut [f64], t: &mut [u32], work: &mut [u32]) {
-    let least = cases::from_bits(1);
+    let least = words::from_bits(1);
     sphere(at(0.0, 0.0, 0.0), b"0", 0.0, 32, 16, v, t, work);
     unit_spheres(v, t, work);
     sphere(at(1.0, 1.0, 1.0), b"2^-1074", least, 32, 16, v, t, work);

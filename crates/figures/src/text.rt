@@ -40,7 +40,7 @@ fn by_bits(b: u64) {
 
 // A float without its sign: whole numbers and halves in decimal.
 fn magnitude(b: u64) {
-    let y = cases::from_bits(b);
+    let y = words::from_bits(b);
     if is_whole(y) {
         count(ieee::ceil_to_usize(y));
         return;
@@ -62,7 +62,7 @@ pub fn float_bits(b: u64) {
 }
 
 pub fn float(x: f64) {
-    float_bits(cases::bits_of(x));
+    float_bits(words::bits_of(x));
 }
 
 // A measure, or its refusal.

@@ -7,5 +7,4 @@ pub use boxes::box_of;
 pub use boxes::plus_zero;
 pub use boxes::zero_box;
 pub use sums::area_sum;
-pub use sums::bits_of;
 pub use sums::volume_sum;

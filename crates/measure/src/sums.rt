@@ -1,8 +1,8 @@
-// The sums over the triangles, and a float's bits.
+// The sums over the triangles.
 ghost use mathlib.Core.Path.{_≡_};
 ghost use Prim.Native.Nat.{_+_, _*_, _≤_, _<_};
 ghost use lib.ListN.{length, getD};
-ghost use lib.Ieee.{binary64, toBits, ofBits};
+ghost use lib.Ieee.{binary64, ofBits};
 ghost use Rattle.trimesh.specs.Measures.{volumeTerm, areaTerm, sumOf};
 ghost use Rattle.triples.specs.Triples.{vertexAt, cornersAt, cornersOf, CornersWithin, AllWithin};
 use math::Vec3;
@@ -67,15 +67,4 @@ pub fn area_sum(vertices: &[f64], triangles: &[u32], k: usize) -> f64
         i += 1;
     }
     sum
-}
-
-// The bits of x. Every NaN is 7FF8000000000000.
-pub fn bits_of(x: f64) -> u64
-    ensures { λ r. ⌜ r ≡ toBits binary64 x ⌝ }
-{
-    if x != x {
-        0x7FF8000000000000
-    } else {
-        f64::to_bits(x)
-    }
 }

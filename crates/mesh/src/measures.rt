@@ -19,7 +19,7 @@ pub fn signed_volume(mesh: TriMesh, vertices: &[f64], triangles: &[u32]) -> Meas
     let x = measure::volume_sum(vertices, triangles, k) / 6.0;
     Measured {
         refusal,
-        bits: measure::bits_of(x),
+        bits: words::bits_of(x),
     }
 }
 
@@ -35,7 +35,7 @@ pub fn enclosed_volume(mesh: TriMesh, vertices: &[f64], triangles: &[u32]) -> Me
     let x = ieee::abs(measure::volume_sum(vertices, triangles, k) / 6.0);
     Measured {
         refusal,
-        bits: measure::bits_of(x),
+        bits: words::bits_of(x),
     }
 }
 
@@ -51,7 +51,7 @@ pub fn area(mesh: TriMesh, vertices: &[f64], triangles: &[u32]) -> Measured
     let x = measure::area_sum(vertices, triangles, k);
     Measured {
         refusal,
-        bits: measure::bits_of(x),
+        bits: words::bits_of(x),
     }
 }
 

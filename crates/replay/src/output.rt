@@ -12,15 +12,15 @@ pub fn count(n: usize) -> u32 {
 
 pub fn word(w: u32) -> bool {
     let mut b = [0u8; 4];
-    cases::put_word(&mut b, 0, w);
+    words::put_word(&mut b, 0, w);
     io::write_all(1, &b)
 }
 
 pub fn three_words(p: u32, q: u32, r: u32) -> bool {
     let mut b = [0u8; 12];
-    cases::put_word(&mut b, 0, p);
-    cases::put_word(&mut b, 4, q);
-    cases::put_word(&mut b, 8, r);
+    words::put_word(&mut b, 0, p);
+    words::put_word(&mut b, 4, q);
+    words::put_word(&mut b, 8, r);
     io::write_all(1, &b)
 }
 
@@ -88,9 +88,9 @@ pub fn edited(e: Edited, vertices: &[f64], triangles: &[u32], buf: &mut [u8]) ->
 fn put_vec(b: &mut [u8; 76], at: usize, p: Vec3)
     requires { ⌜ at + 24 ≤ 76 ⌝ }
 {
-    cases::put_float(b, at, p.x);
-    cases::put_float(b, at + 8, p.y);
-    cases::put_float(b, at + 16, p.z);
+    words::put_float(b, at, p.x);
+    words::put_float(b, at + 8, p.y);
+    words::put_float(b, at + 16, p.z);
 }
 
 fn write_measures(b: &[u8; 76]) -> bool {
@@ -102,10 +102,10 @@ pub fn measured(why: u32, volume: u64, enclosed: u64, area: u64, bounds: Boundin
     let low = bounds.min;
     let high = bounds.max;
     let mut b = [0u8; 76];
-    cases::put_word(&mut b, 0, why);
-    cases::put_long(&mut b, 4, volume);
-    cases::put_long(&mut b, 12, enclosed);
-    cases::put_long(&mut b, 20, area);
+    words::put_word(&mut b, 0, why);
+    words::put_long(&mut b, 4, volume);
+    words::put_long(&mut b, 12, enclosed);
+    words::put_long(&mut b, 20, area);
     put_vec(&mut b, 28, low);
     put_vec(&mut b, 52, high);
     write_measures(&b)

@@ -55,13 +55,13 @@ fn solid(kind: u8, head: &[u8]) -> Shape
         4 => Shape::Cylinder {
             start: p,
             stop: q,
-            radius: cases::float_at(head, 96),
+            radius: words::float_at(head, 96),
         },
         _ => Shape::CylindricalShell {
             start: p,
             stop: q,
-            radius: cases::float_at(head, 96),
-            shell_width: cases::float_at(head, 104),
+            radius: words::float_at(head, 96),
+            shell_width: words::float_at(head, 104),
         },
     }
 }

@@ -8,7 +8,7 @@ use Rattle.replay.proofs.calls.fill_floats.Statement.{statement}
 use Rattle.replay.proofs.calls.fill_floats.Tie as tie
 use Rattle.replay.proofs.calls.fill_floats.Reads as reads
 use Rattle.replay.proofs.calls.fill_floats.Lts as lts
-use Rattle.cases.proofs.from_bits.Reads as from-bits-reads
+use Rattle.words.proofs.from_bits.Reads as from-bits-reads
 
 abbrev Inv-loop : tie.InvT-loop
 Inv-loop out₀ x i₀ out i = (i ≤ length out₀) × (length out ≡ length out₀)

@@ -1,13 +1,13 @@
--- `cases::bytes::long_at` meets its contract. Assumes nothing.
+-- `words::bytes::long_at` meets its contract. Assumes nothing.
 use native.Mathlib.Omega.{arith}
-use Rattle.cases.specs.Bytes.{longAt}
+use Rattle.words.specs.Bytes.{longAt}
 use borrow.Author.Needs.{needs}
-use Rattle.cases.proofs.bytes.long_at.Statement.{statement}
-use Rattle.cases.proofs.bytes.long_at.Tie as tie
-use Rattle.cases.proofs.bytes.long_at.Reads as reads
-use Rattle.cases.proofs.bytes.long_at.Lts as lts
-use Rattle.cases.proofs.bytes.wider.Reads as wider-reads
-use Rattle.cases.proofs.bytes.word_at.Reads as word-at-reads
+use Rattle.words.proofs.bytes.long_at.Statement.{statement}
+use Rattle.words.proofs.bytes.long_at.Tie as tie
+use Rattle.words.proofs.bytes.long_at.Reads as reads
+use Rattle.words.proofs.bytes.long_at.Lts as lts
+use Rattle.words.proofs.bytes.wider.Reads as wider-reads
+use Rattle.words.proofs.bytes.word_at.Reads as word-at-reads
 
 word-at-requires : tie.Need-word-at-requires
 word-at-requires c κs = search needs

@@ -3,7 +3,7 @@ ghost use mathlib.Core.Path.{_≡_};
 ghost use Prim.Native.Nat.{_+_, _≤_};
 ghost use lib.ListN.{length};
 ghost use lib.Ieee.{binary64, ofBits, toBits};
-ghost use Rattle.cases.specs.Bytes.{longAt, withLong};
+ghost use Rattle.words.specs.Bytes.{longAt, withLong};
 use crate::bytes;
 
 // The float of a bit pattern.

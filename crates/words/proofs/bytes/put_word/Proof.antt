@@ -1,14 +1,14 @@
--- `cases::bytes::put_word` meets its contract. Assumes nothing.
+-- `words::bytes::put_word` meets its contract. Assumes nothing.
 use denote.Ref.{now}
 use mathlib.Core.Path.{ap, _∙_}
-use Rattle.cases.specs.Bytes.{withWord}
+use Rattle.words.specs.Bytes.{withWord}
 use borrow.Author.Needs.{needs}
-use Rattle.cases.proofs.bytes.put_word.Statement.{statement}
-use Rattle.cases.proofs.bytes.put_word.Tie as tie
-use Rattle.cases.proofs.bytes.put_word.Reads as reads
-use Rattle.cases.proofs.bytes.put_word.Lts as lts
-use Rattle.cases.proofs.bytes.put_low.Reads as put-low-reads
-use Rattle.cases.proofs.bytes.wider.Reads as wider-reads
+use Rattle.words.proofs.bytes.put_word.Statement.{statement}
+use Rattle.words.proofs.bytes.put_word.Tie as tie
+use Rattle.words.proofs.bytes.put_word.Reads as reads
+use Rattle.words.proofs.bytes.put_word.Lts as lts
+use Rattle.words.proofs.bytes.put_low.Reads as put-low-reads
+use Rattle.words.proofs.bytes.wider.Reads as wider-reads
 
 wider-requires : tie.Need-wider-requires
 wider-requires c κs = search needs

@@ -1,12 +1,12 @@
--- `cases::bytes::word_at` meets its contract: a byte is below 256, so no sum wraps. Assumes nothing.
+-- `words::bytes::word_at` meets its contract: a byte is below 256, so no sum wraps. Assumes nothing.
 use native.Mathlib.Omega.{arith}
-use Rattle.cases.specs.Bytes.{wordAt}
+use Rattle.words.specs.Bytes.{wordAt}
 use borrow.Author.Needs.{needs}
-use Rattle.cases.proofs.bytes.word_at.Statement.{statement}
-use Rattle.cases.proofs.bytes.word_at.Tie as tie
-use Rattle.cases.proofs.bytes.word_at.Reads as reads
-use Rattle.cases.proofs.bytes.word_at.Lts as lts
-use Rattle.cases.proofs.bytes.wide.Reads as wide-reads
+use Rattle.words.proofs.bytes.word_at.Statement.{statement}
+use Rattle.words.proofs.bytes.word_at.Tie as tie
+use Rattle.words.proofs.bytes.word_at.Reads as reads
+use Rattle.words.proofs.bytes.word_at.Lts as lts
+use Rattle.words.proofs.bytes.wide.Reads as wide-reads
 
 shared-slice-read-wide : tie.Need-shared-slice-read-wide
 shared-slice-read-wide c = search needs

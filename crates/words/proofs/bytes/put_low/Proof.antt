@@ -1,15 +1,15 @@
--- `cases::bytes::put_low` meets its contract. Assumes nothing.
+-- `words::bytes::put_low` meets its contract. Assumes nothing.
 use denote.Ref.{now}
 use Prim.Native.Nat.{_+_}
 use native.Mathlib.Omega.{arith}
 use lib.ListN.{set, length-set}
-use Rattle.cases.specs.Bytes.{withWord}
+use Rattle.words.specs.Bytes.{withWord}
 use borrow.Author.Needs.{needs}
-use Rattle.cases.proofs.bytes.put_low.Statement.{statement}
-use Rattle.cases.proofs.bytes.put_low.Tie as tie
-use Rattle.cases.proofs.bytes.put_low.Reads as reads
-use Rattle.cases.proofs.bytes.put_low.Lts as lts
-use Rattle.cases.proofs.bytes.low_byte.Reads as low-byte-reads
+use Rattle.words.proofs.bytes.put_low.Statement.{statement}
+use Rattle.words.proofs.bytes.put_low.Tie as tie
+use Rattle.words.proofs.bytes.put_low.Reads as reads
+use Rattle.words.proofs.bytes.put_low.Lts as lts
+use Rattle.words.proofs.bytes.low_byte.Reads as low-byte-reads
 
 low-byte-requires : tie.Need-low-byte-requires
 low-byte-requires c κs = search needs

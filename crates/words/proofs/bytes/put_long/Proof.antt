@@ -1,14 +1,14 @@
--- `cases::bytes::put_long` meets its contract. Assumes nothing.
+-- `words::bytes::put_long` meets its contract. Assumes nothing.
 use mathlib.Core.Path.{ap, _∙_}
 use mathlib.Core.List.{List}
 use Prim.Native.Nat.{ℕ, _+_, _/_}
-use Rattle.cases.specs.Bytes.{withWord, withLong}
+use Rattle.words.specs.Bytes.{withWord, withLong}
 use borrow.Author.Needs.{needs}
-use Rattle.cases.proofs.bytes.put_long.Statement.{statement}
-use Rattle.cases.proofs.bytes.put_long.Tie as tie
-use Rattle.cases.proofs.bytes.put_long.Reads as reads
-use Rattle.cases.proofs.bytes.put_long.Lts as lts
-use Rattle.cases.proofs.bytes.put_low.Reads as put-low-reads
+use Rattle.words.proofs.bytes.put_long.Statement.{statement}
+use Rattle.words.proofs.bytes.put_long.Tie as tie
+use Rattle.words.proofs.bytes.put_long.Reads as reads
+use Rattle.words.proofs.bytes.put_long.Lts as lts
+use Rattle.words.proofs.bytes.put_low.Reads as put-low-reads
 
 put-low-requires : tie.Need-put-low-requires
 put-low-requires c κs = search needs

@@ -1,14 +1,14 @@
--- `cases::floats::put_float` meets its contract. Assumes nothing.
+-- `words::floats::put_float` meets its contract. Assumes nothing.
 use denote.Ref.{now}
 use mathlib.Core.Path.{ap, _∙_}
-use Rattle.cases.specs.Bytes.{withLong}
+use Rattle.words.specs.Bytes.{withLong}
 use borrow.Author.Needs.{needs}
-use Rattle.cases.proofs.floats.put_float.Statement.{statement}
-use Rattle.cases.proofs.floats.put_float.Tie as tie
-use Rattle.cases.proofs.floats.put_float.Reads as reads
-use Rattle.cases.proofs.floats.put_float.Lts as lts
-use Rattle.cases.proofs.bytes.put_long.Reads as put-long-reads
-use Rattle.cases.proofs.floats.bits_of.Reads as bits-of-reads
+use Rattle.words.proofs.floats.put_float.Statement.{statement}
+use Rattle.words.proofs.floats.put_float.Tie as tie
+use Rattle.words.proofs.floats.put_float.Reads as reads
+use Rattle.words.proofs.floats.put_float.Lts as lts
+use Rattle.words.proofs.bytes.put_long.Reads as put-long-reads
+use Rattle.words.proofs.floats.bits_of.Reads as bits-of-reads
 
 bits-of-requires : tie.Need-bits-of-requires
 bits-of-requires c κs = search needs

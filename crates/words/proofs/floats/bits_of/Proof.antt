@@ -1,10 +1,10 @@
--- `cases::floats::bits_of` meets its contract: only a NaN differs from itself. Assumes nothing.
-use Rattle.cases.proofs.Nan.{nan-bits, no-nan}
+-- `words::floats::bits_of` meets its contract: only a NaN differs from itself. Assumes nothing.
+use Rattle.words.proofs.Nan.{nan-bits, no-nan}
 use borrow.Author.Needs.{needs}
-use Rattle.cases.proofs.floats.bits_of.Statement.{statement}
-use Rattle.cases.proofs.floats.bits_of.Tie as tie
-use Rattle.cases.proofs.floats.bits_of.Reads as reads
-use Rattle.cases.proofs.floats.bits_of.Lts as lts
+use Rattle.words.proofs.floats.bits_of.Statement.{statement}
+use Rattle.words.proofs.floats.bits_of.Tie as tie
+use Rattle.words.proofs.floats.bits_of.Reads as reads
+use Rattle.words.proofs.floats.bits_of.Lts as lts
 
 float-to-bits-result : tie.Need-float-to-bits-result
 float-to-bits-result c = no-nan (c .before .args .x) (c .if1 .left)

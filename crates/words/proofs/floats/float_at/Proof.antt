@@ -1,13 +1,13 @@
--- `cases::floats::float_at` meets its contract. Assumes nothing.
+-- `words::floats::float_at` meets its contract. Assumes nothing.
 use mathlib.Core.Path.{ap, _∙_}
 use lib.Ieee.{binary64, ofBits}
 use borrow.Author.Needs.{needs}
-use Rattle.cases.proofs.floats.float_at.Statement.{statement}
-use Rattle.cases.proofs.floats.float_at.Tie as tie
-use Rattle.cases.proofs.floats.float_at.Reads as reads
-use Rattle.cases.proofs.floats.float_at.Lts as lts
-use Rattle.cases.proofs.bytes.long_at.Reads as long-at-reads
-use Rattle.cases.proofs.floats.from_bits.Reads as from-bits-reads
+use Rattle.words.proofs.floats.float_at.Statement.{statement}
+use Rattle.words.proofs.floats.float_at.Tie as tie
+use Rattle.words.proofs.floats.float_at.Reads as reads
+use Rattle.words.proofs.floats.float_at.Lts as lts
+use Rattle.words.proofs.bytes.long_at.Reads as long-at-reads
+use Rattle.words.proofs.floats.from_bits.Reads as from-bits-reads
 
 long-at-requires : tie.Need-long-at-requires
 long-at-requires c κs = search needs

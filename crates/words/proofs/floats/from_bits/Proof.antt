@@ -1,11 +1,11 @@
--- `cases::floats::from_bits` meets its contract: a pattern above that of the infinity is a NaN. Assumes nothing.
+-- `words::floats::from_bits` meets its contract: a pattern above that of the infinity is a NaN. Assumes nothing.
 use mathlib.Core.Path.{_∙_}
-use Rattle.cases.proofs.Nan.{not-nan, nan-of, zero-over-zero}
+use Rattle.words.proofs.Nan.{not-nan, nan-of, zero-over-zero}
 use borrow.Author.Needs.{needs}
-use Rattle.cases.proofs.floats.from_bits.Statement.{statement}
-use Rattle.cases.proofs.floats.from_bits.Tie as tie
-use Rattle.cases.proofs.floats.from_bits.Reads as reads
-use Rattle.cases.proofs.floats.from_bits.Lts as lts
+use Rattle.words.proofs.floats.from_bits.Statement.{statement}
+use Rattle.words.proofs.floats.from_bits.Tie as tie
+use Rattle.words.proofs.floats.from_bits.Reads as reads
+use Rattle.words.proofs.floats.from_bits.Lts as lts
 
 float-from-bits-result : tie.Need-float-from-bits-result
 float-from-bits-result c = not-nan (c .before .args .b) (c .if1 .left)

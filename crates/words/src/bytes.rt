@@ -2,7 +2,7 @@
 ghost use mathlib.Core.Path.{_≡_};
 ghost use Prim.Native.Nat.{_+_, _<_, _≤_, _%_};
 ghost use lib.ListN.{length};
-ghost use Rattle.cases.specs.Bytes.{wordAt, longAt, withWord, withLong};
+ghost use Rattle.words.specs.Bytes.{wordAt, longAt, withWord, withLong};
 
 fn wide(x: u8) -> u64
     ensures { λ r. ⌜ (r ≡ x) × (r < 256) ⌝ }

@@ -1,0 +1,2 @@
+-- Laws that the proofs of `words` use.
+pub mod Nan
