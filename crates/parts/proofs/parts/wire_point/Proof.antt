@@ -1,4 +1,6 @@
 -- `parts::parts::wire_point` meets its contract. Assumes nothing.
+use mathlib.Core.Path.{ap, _∙_}
+use Rattle.soups.specs.Coords.{toCartesian}
 use Rattle.soups.specs.Wire.{wirePoint}
 use Rattle.parts.proofs.parts.wire_point.Statement.{statement}
 use Rattle.parts.proofs.parts.wire_point.Tie as tie
@@ -11,7 +13,7 @@ to-cartesian-requires c κs = tt
 
 returns : tie.Need-returns
 unfolding wirePoint
-returns c = cc
+returns c = c .to-cartesian .ensures ∙ ap (toCartesian (c .before .before .before .args .cylindrical)) (c .before .point-at .ensures)
 
 pub wire-point-spec : {M : Type 1} → statement M
 wire-point-spec =
