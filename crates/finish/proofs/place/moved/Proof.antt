@@ -18,13 +18,13 @@ refuse-requires : tie.Need-refuse-requires
 refuse-requires c κs = search needs
 
 same-length : tie.Need-same-length
-same-length c = search needs
+same-length c = c .before .before .before .before .before .vertices .given
 
 same-length-2 : tie.Need-same-length-2
-same-length-2 c = search needs
+same-length-2 c = c .before .before .before .triangles .given
 
 same-length-3 : tie.Need-same-length-3
-same-length-3 c = search needs
+same-length-3 c = c .before .work .given
 
 returns : tie.Need-returns
 returns c =
@@ -45,18 +45,24 @@ accept-requires : tie.Need-accept-requires
 accept-requires c κs = search needs
 
 same-length-4 : tie.Need-same-length-4
-same-length-4 c = search needs
+same-length-4 c =
+    let d = c .before .before .before .before .before in
+    d .vertices3 .given ∙ d .before .before .before .before .before .before .before .before .vertices2 .given
 
 same-length-5 : tie.Need-same-length-5
-same-length-5 c = search needs
+same-length-5 c =
+    let d = c .before .before .before in
+    d .triangles3 .given ∙ d .before .before .before .before .before .before .before .before .triangles2 .given
 
 same-length-6 : tie.Need-same-length-6
-same-length-6 c = search needs
+same-length-6 c = c .before .work2 .given
 
 returns-2 : tie.Need-returns-2
 returns-2 c =
     let c6 = c .before .before .before .before .before .before in
-    let c14 = c6 .before .before .before .before .before .before .before .before in
+    let c11 = c6 .before .before .before .before .before in
+    let c13 = c11 .before .before in
+    let c14 = c13 .before in
     let c17 = c14 .before .before .before in
     let c18 = c17 .before in
     let c23 = c18 .before .before .before .before .before in
@@ -65,10 +71,8 @@ returns-2 c =
     let m = transform (a .a) (meshOf s) in
     let vs = c14 .move-mesh .last .1 .0 in
     let ts = c14 .move-mesh .last .1 .1 .0 in
-    let lv : length vs ≡ length (now (a .vertices)) = search needs in
-    let lt : length ts ≡ length (now (a .triangles)) = search needs in
     gives-as
-    (accepted-lengths m vs (now (a .vertices)) ts (now (a .triangles)) (now (a .work)) (now (a .work)) lv lt refl
+    (accepted-lengths m vs (now (a .vertices)) ts (now (a .triangles)) (now (a .work)) (now (a .work)) (c13 .vertices2 .given) (c11 .triangles2 .given) refl
     ∙ moved-accepted (a .a) s (c18 .stay-finite .result) (c18 .stay-finite .ensures)
     (length (now (a .vertices))) (length (now (a .triangles))) (length (now (a .work))) (not-false (c18 .stay-finite .result) (c17 .if1 .left)))
     (closes-gives m s (a .counts) vs ts (now (a .work)) (c14 .move-mesh .ensures) _ _ _ _ (c6 .accept .ensures))
