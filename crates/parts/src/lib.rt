@@ -1,5 +1,6 @@
 // Solids of several parts, each welded among its own vertices: multi-box and wire of src/primitives.
-mod parts;
+mod multi_box;
+mod wire;
 
-pub use parts::weld_multi_box;
-pub use parts::weld_wire;
+pub use multi_box::weld_multi_box;
+pub use wire::weld_wire;

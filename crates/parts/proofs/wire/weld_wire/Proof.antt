@@ -1,9 +1,9 @@
--- `parts::parts::weld_wire` meets its contract. Assumes nothing.
+-- `parts::wire::weld_wire` meets its contract. Assumes nothing.
 use lib.Ieee.{ofBits}
 use mathlib.Core.Path.{_∙_}
 use Rattle.parts.proofs.PartRuns.{wire-none, wire-runs}
-use Rattle.parts.proofs.parts.weld_wire.Statement.{statement}
-use Rattle.parts.proofs.parts.weld_wire.Tie as tie
+use Rattle.parts.proofs.wire.weld_wire.Statement.{statement}
+use Rattle.parts.proofs.wire.weld_wire.Tie as tie
 
 weld-tubes-requires : tie.Need-weld-tubes-requires
 weld-tubes-requires c κs = (c .before .before .before .before .before .before .before .before .pre .0, c .before .before .before .before .before .before .before .before .pre .1 .0)

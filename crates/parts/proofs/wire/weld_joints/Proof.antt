@@ -1,4 +1,4 @@
--- `parts::parts::weld_joints` meets its contract. Assumes nothing.
+-- `parts::wire::weld_joints` meets its contract. Assumes nothing.
 use denote.Ref.{now}
 use native.Mathlib.Omega.{arith}
 use mathlib.Core.Path.{_≡_, refl}
@@ -8,8 +8,8 @@ use Rattle.weld.specs.Rep.{held}
 use Rattle.soups.specs.Boxes.{parts}
 use Rattle.parts.specs.Parts.{PartsRun}
 use Rattle.parts.proofs.PartRuns.{jointAt, joints-all, loop-none, loop-more}
-use Rattle.parts.proofs.parts.weld_joints.Statement.{statement}
-use Rattle.parts.proofs.parts.weld_joints.Tie as tie
+use Rattle.parts.proofs.wire.weld_joints.Statement.{statement}
+use Rattle.parts.proofs.wire.weld_joints.Tie as tie
 
 abbrev Inv-loop : tie.InvT-loop
 Inv-loop vertices₀ triangles₀ work₀ list cylindrical r segments rings st₀ n i₀ vertices triangles work st i =

@@ -1,4 +1,4 @@
--- `parts::parts::weld_multi_box` meets its contract. Assumes nothing.
+-- `parts::wire::weld_tubes` meets its contract. Assumes nothing.
 use denote.Ref.{now}
 use native.Mathlib.Omega.{arith}
 use mathlib.Core.Path.{_≡_, refl}
@@ -7,22 +7,25 @@ use lib.ListN.{length}
 use Rattle.weld.specs.Rep.{held}
 use Rattle.soups.specs.Boxes.{parts}
 use Rattle.parts.specs.Parts.{PartsRun}
-use Rattle.parts.proofs.PartRuns.{boxAt, boxes-all, loop-none, loop-more}
-use Rattle.parts.proofs.parts.weld_multi_box.Statement.{statement}
-use Rattle.parts.proofs.parts.weld_multi_box.Tie as tie
+use Rattle.parts.proofs.PartRuns.{tubeAt, tubes-all, loop-none, loop-more}
+use Rattle.parts.proofs.wire.weld_tubes.Statement.{statement}
+use Rattle.parts.proofs.wire.weld_tubes.Tie as tie
 
 abbrev Inv-loop : tie.InvT-loop
-Inv-loop vertices₀ triangles₀ work₀ list cylindrical segments st₀ n i₀ vertices triangles work st i =
-    (i ≤ n) × (n ≡ length list / 6) × PartsRun (parts i (boxAt cylindrical list segments)) (held st₀ vertices₀ triangles₀ work₀) (held st vertices triangles work)
+Inv-loop vertices₀ triangles₀ work₀ list cylindrical r segments st₀ n i₀ vertices triangles work st i =
+    (i ≤ n - 1) × (n ≡ length list / 3) × PartsRun (parts i (tubeAt cylindrical list segments r)) (held st₀ vertices₀ triangles₀ work₀) (held st vertices triangles work)
 
 abbrev μ-loop : tie.MeasureT-loop
-μ-loop vertices₀ triangles₀ work₀ list cylindrical segments st₀ n i₀ vertices triangles work st i = n - i
+μ-loop vertices₀ triangles₀ work₀ list cylindrical r segments st₀ n i₀ vertices triangles work st i = n - i
 
 loop-holds : tie.Need-loop-holds Inv-loop μ-loop
-loop-holds c = let x = c .before .before .before .before in (zero-le, refl, loop-none (boxAt (x .args .cylindrical) (now (x .args .list)) (x .args .segments)) _ (x .pre .0))
+loop-holds c = let x = c .before .before .before .before in (zero-le, refl, loop-none (tubeAt (x .args .cylindrical) (now (x .args .list)) (x .args .segments) (x .args .r)) _ (x .pre .0))
 
-weld-box-part-requires : tie.Need-weld-box-part-requires Inv-loop μ-loop
-weld-box-part-requires c κs = (
+add-loop : tie.Need-add-loop Inv-loop μ-loop
+add-loop c = omega (arith, c .loop .inv .0, c .loop .inv .1)
+
+weld-tube-part-requires : tie.Need-weld-tube-part-requires Inv-loop μ-loop
+weld-tube-part-requires c κs = (
   c .before .before .before .before .loop .inv .2 .ready,
   (
     c .before .before .before .before .before .before .before .before .before .pre .1,
@@ -47,8 +50,8 @@ loop-again c = let x = c .before .before .before .before .before .before .before
     let l = c .before .before .before .before .before .before .before .before .before .before .before .loop in (
       omega (arith, c .before .before .before .before .before .before .before .before .before .before .loop-test .taken),
       l .inv .1,
-      loop-more (boxAt (x .args .cylindrical) (now
-          (x .args .list)) (x .args .segments)) (l .i) _ _ _ (l .inv .2) (c .before .before .before .before .before .before .weld-box-part .ensures),
+      loop-more (tubeAt (x .args .cylindrical) (now (x .args .list)) (x .args .segments) (x .args .r)) (l .i) _ _ _ (l .inv .2) (c .before .before .before .before .before
+          .before .weld-tube-part .ensures),
     )
 
 same-length : tie.Need-same-length Inv-loop μ-loop
@@ -61,16 +64,17 @@ same-length-3 : tie.Need-same-length-3 Inv-loop μ-loop
 same-length-3 c = c .before .loop .inv .2 .wlong
 
 returns : tie.Need-returns Inv-loop μ-loop
-returns c = let l = c .before .loop in boxes-all _ _ _ (l .i) _ _ (omega (arith, l .inv .0, l .inv .1, c .loop-test .left)) (l .inv .2)
+returns c = let l = c .before .loop in tubes-all _ _ _ _ (l .i) _ _ (omega (arith, l .inv .0, l .inv .1, c .loop-test .left)) (l .inv .2)
 
-pub weld-multi-box-spec : {M : Type 1} → statement M
-weld-multi-box-spec =
+pub weld-tubes-spec : {M : Type 1} → statement M
+weld-tubes-spec =
     tie.close
     (tie.spec
     Inv-loop
     μ-loop
     loop-holds
-    weld-box-part-requires
+    add-loop
+    weld-tube-part-requires
     add-i
     loop-less
     loop-again

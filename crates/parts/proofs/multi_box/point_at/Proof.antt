@@ -1,9 +1,9 @@
--- `parts::parts::point_at` meets its contract. Assumes nothing.
+-- `parts::multi_box::point_at` meets its contract. Assumes nothing.
 use borrow.Author.Needs.{needs}
 use mathlib.Core.Path.{refl}
 use Rattle.soups.specs.Boxes.{pointAt}
-use Rattle.parts.proofs.parts.point_at.Statement.{statement}
-use Rattle.parts.proofs.parts.point_at.Tie as tie
+use Rattle.parts.proofs.multi_box.point_at.Statement.{statement}
+use Rattle.parts.proofs.multi_box.point_at.Tie as tie
 
 mul-k : tie.Need-mul-k
 mul-k c = search needs

@@ -1,7 +1,7 @@
--- `parts::parts::weld_joint_part` meets its contract. Assumes nothing.
+-- `parts::wire::weld_joint_part` meets its contract. Assumes nothing.
 use Rattle.parts.proofs.PartRuns.{joint-part}
-use Rattle.parts.proofs.parts.weld_joint_part.Statement.{statement}
-use Rattle.parts.proofs.parts.weld_joint_part.Tie as tie
+use Rattle.parts.proofs.wire.weld_joint_part.Statement.{statement}
+use Rattle.parts.proofs.wire.weld_joint_part.Tie as tie
 
 wire-point-requires : tie.Need-wire-point-requires
 wire-point-requires c κs = c .before .before .before .before .pre .1 .2

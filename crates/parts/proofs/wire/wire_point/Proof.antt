@@ -1,9 +1,9 @@
--- `parts::parts::wire_point` meets its contract. Assumes nothing.
+-- `parts::wire::wire_point` meets its contract. Assumes nothing.
 use mathlib.Core.Path.{ap, _∙_}
 use Rattle.soups.specs.Coords.{toCartesian}
 use Rattle.soups.specs.Wire.{wirePoint}
-use Rattle.parts.proofs.parts.wire_point.Statement.{statement}
-use Rattle.parts.proofs.parts.wire_point.Tie as tie
+use Rattle.parts.proofs.wire.wire_point.Statement.{statement}
+use Rattle.parts.proofs.wire.wire_point.Tie as tie
 
 point-at-requires : tie.Need-point-at-requires
 point-at-requires c κs = c .before .pre

@@ -1,9 +1,9 @@
--- `parts::parts::weld_tube_part` meets its contract. Assumes nothing.
+-- `parts::wire::weld_tube_part` meets its contract. Assumes nothing.
 use native.Mathlib.Omega.{arith}
 use lib.Ieee.{ofBits}
 use Rattle.parts.proofs.PartRuns.{tube-part}
-use Rattle.parts.proofs.parts.weld_tube_part.Statement.{statement}
-use Rattle.parts.proofs.parts.weld_tube_part.Tie as tie
+use Rattle.parts.proofs.wire.weld_tube_part.Statement.{statement}
+use Rattle.parts.proofs.wire.weld_tube_part.Tie as tie
 
 wire-point-requires : tie.Need-wire-point-requires
 wire-point-requires c κs = omega (arith, c .before .before .before .before .pre .1 .1)

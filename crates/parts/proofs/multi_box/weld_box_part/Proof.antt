@@ -1,8 +1,8 @@
--- `parts::parts::weld_box_part` meets its contract. Assumes nothing.
+-- `parts::multi_box::weld_box_part` meets its contract. Assumes nothing.
 use native.Mathlib.Omega.{arith}
 use Rattle.parts.proofs.PartRuns.{box-part}
-use Rattle.parts.proofs.parts.weld_box_part.Statement.{statement}
-use Rattle.parts.proofs.parts.weld_box_part.Tie as tie
+use Rattle.parts.proofs.multi_box.weld_box_part.Statement.{statement}
+use Rattle.parts.proofs.multi_box.weld_box_part.Tie as tie
 
 mul-point-at : tie.Need-mul-point-at
 mul-point-at c = omega (arith, c .before .before .before .before .pre .1 .1)
