@@ -6,7 +6,7 @@ use Rattle.cases.proofs.head.head_of.Statement.{statement}
 use Rattle.cases.proofs.head.head_of.Tie as tie
 use Rattle.cases.proofs.head.head_of.Reads as reads
 use Rattle.cases.proofs.head.head_of.Lts as lts
-use Rattle.cases.proofs.bytes.word_at.Reads as word-at-reads
+use Rattle.words.proofs.word_at.Reads as word-at-reads
 
 shared-slice-read-t3 : tie.Need-shared-slice-read-t3
 shared-slice-read-t3 c = search needs

@@ -12,7 +12,7 @@ use Rattle.cases.proofs.lists.get_floats.Statement.{statement}
 use Rattle.cases.proofs.lists.get_floats.Tie as tie
 use Rattle.cases.proofs.lists.get_floats.Reads as reads
 use Rattle.cases.proofs.lists.get_floats.Lts as lts
-use Rattle.cases.proofs.floats.float_at.Reads as float-at-reads
+use Rattle.words.proofs.float_at.Reads as float-at-reads
 
 abbrev Inv-loop : tie.InvT-loop
 Inv-loop b out₀ i₀ out i = (i ≤ length out₀) × (length out ≡ length out₀) × (take i out ≡ floatsOf i b)

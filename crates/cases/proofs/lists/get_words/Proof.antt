@@ -12,7 +12,7 @@ use Rattle.cases.proofs.lists.get_words.Statement.{statement}
 use Rattle.cases.proofs.lists.get_words.Tie as tie
 use Rattle.cases.proofs.lists.get_words.Reads as reads
 use Rattle.cases.proofs.lists.get_words.Lts as lts
-use Rattle.cases.proofs.bytes.word_at.Reads as word-at-reads
+use Rattle.words.proofs.word_at.Reads as word-at-reads
 
 abbrev Inv-loop : tie.InvT-loop
 Inv-loop b out₀ i₀ out i = (i ≤ length out₀) × (length out ≡ length out₀) × (take i out ≡ wordsOf i b)

@@ -11,7 +11,7 @@ use Rattle.cases.proofs.lists.put_floats.Statement.{statement}
 use Rattle.cases.proofs.lists.put_floats.Tie as tie
 use Rattle.cases.proofs.lists.put_floats.Reads as reads
 use Rattle.cases.proofs.lists.put_floats.Lts as lts
-use Rattle.cases.proofs.floats.put_float.Reads as put-float-reads
+use Rattle.words.proofs.put_float.Reads as put-float-reads
 
 abbrev Inv-loop : tie.InvT-loop
 Inv-loop v b₀ i₀ b i = (i ≤ length v) × (length b ≡ length b₀) × (b ≡ withFloats i v b₀)

@@ -11,7 +11,7 @@ use Rattle.cases.proofs.lists.put_words.Statement.{statement}
 use Rattle.cases.proofs.lists.put_words.Tie as tie
 use Rattle.cases.proofs.lists.put_words.Reads as reads
 use Rattle.cases.proofs.lists.put_words.Lts as lts
-use Rattle.cases.proofs.bytes.put_word.Reads as put-word-reads
+use Rattle.words.proofs.put_word.Reads as put-word-reads
 
 abbrev Inv-loop : tie.InvT-loop
 Inv-loop v b₀ i₀ b i = (i ≤ length v) × (length b ≡ length b₀) × (b ≡ withWords i v b₀)

@@ -9,7 +9,7 @@ use Rattle.cases.proofs.ops.op_at.Statement.{statement}
 use Rattle.cases.proofs.ops.op_at.Tie as tie
 use Rattle.cases.proofs.ops.op_at.Reads as reads
 use Rattle.cases.proofs.ops.op_at.Lts as lts
-use Rattle.cases.proofs.floats.float_at.Reads as float-at-reads
+use Rattle.words.proofs.float_at.Reads as float-at-reads
 use Rattle.cases.proofs.ops.matrix_at.Reads as matrix-at-reads
 use Rattle.cases.proofs.ops.vec_at.Reads as vec-at-reads
 

@@ -5,7 +5,7 @@ use Rattle.cases.proofs.ops.vec_at.Statement.{statement}
 use Rattle.cases.proofs.ops.vec_at.Tie as tie
 use Rattle.cases.proofs.ops.vec_at.Reads as reads
 use Rattle.cases.proofs.ops.vec_at.Lts as lts
-use Rattle.cases.proofs.floats.float_at.Reads as float-at-reads
+use Rattle.words.proofs.float_at.Reads as float-at-reads
 
 float-at-requires : tie.Need-float-at-requires
 float-at-requires c κs = search needs
