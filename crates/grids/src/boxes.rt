@@ -12,10 +12,10 @@ ghost use Rattle.soups.specs.Surface.{mapped, lineOf};
 ghost use Rattle.grids.specs.Box.{BoxWithin};
 use crate::grid;
 use math::Vec3;
-use surfaces::Turns;
 use soups::Chart;
 use soups::Line;
 use soups::Surface;
+use surfaces::Turns;
 use weld::Welder;
 
 const TAU: f64 = 6.283185307179586;

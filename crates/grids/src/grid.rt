@@ -8,12 +8,13 @@ ghost use Rattle.surfaces.specs.Turns.{Tabled};
 ghost use Rattle.soups.specs.Surface.{surfaceAt};
 ghost use Rattle.soups.specs.Grid as Grid;
 ghost use Rattle.grids.specs.Cell.{turned};
+use crate::guesses;
 use math::Vec3;
 use quads::Quad;
 use soups::Surface;
 use weld::Welder;
 
-// One cell: the quad a, b, c, d, or where flip says so a, d, c, b. The last three arguments are guesses at the numbers of a, b and d.
+// One cell: the quad a, b, c, d, or where flip says so a, d, c, b. The last four arguments are guesses at the numbers of a, b, c and d.
 fn weld_cell(
     vertices: &mut [f64],
     triangles: &mut [u32],
@@ -26,6 +27,7 @@ fn weld_cell(
     d: Vec3,
     na: usize,
     nb: usize,
+    nc: usize,
     nd: usize,
 ) -> Quad
     requires { ⌜ Ready (held w (now vertices) (now triangles) (now work)) ⌝ }
@@ -34,7 +36,7 @@ fn weld_cell(
         (held (r .st) (now (vertices .exit)) (now (triangles .exit)) (now (work .exit))) ⌝ }
 {
     if flip {
-        let q = quads::weld_quad(vertices, triangles, work, w, a, d, c, b, na, nd, nb);
+        let q = quads::weld_quad(vertices, triangles, work, w, a, d, c, b, na, nd, nc, nb);
         let st = q.st;
         return Quad {
             st,
@@ -44,7 +46,7 @@ fn weld_cell(
             d: q.b,
         };
     }
-    quads::weld_quad(vertices, triangles, work, w, a, b, c, d, na, nb, nd)
+    quads::weld_quad(vertices, triangles, work, w, a, b, c, d, na, nb, nc, nd)
 }
 
 // The cells of row i. The last two points of a cell are the first two of the next. `numbers` has guesses at the numbers of the
@@ -73,14 +75,32 @@ fn weld_row(
     let mut a = surfaces::surface_point(s, corners, rows, cols, i, 0);
     let mut b = surfaces::surface_point(s, corners, rows, cols, i + 1, 0);
     let mut na = numbers[0];
-    let mut nb = w.count;
+    let mut nb = guesses::same_or(b, a, na, w.count);
+    let mut last = nb;
     let mut j = 0;
     while j < nv {
         let d = surfaces::surface_point(s, corners, rows, cols, i, j + 1);
         let c = surfaces::surface_point(s, corners, rows, cols, i + 1, j + 1);
-        let nd = numbers[j + 1];
-        let q = weld_cell(vertices, triangles, work, st, flip, a, b, c, d, na, nb, nd);
+        let nd = guesses::same_or(d, a, na, numbers[j + 1]);
+        let beside = guesses::same_or(c, d, nd, guesses::onward(last, nb, st.count));
+        let nc = guesses::same_or(c, b, nb, beside);
+        let q = weld_cell(
+            vertices,
+            triangles,
+            work,
+            st,
+            flip,
+            a,
+            b,
+            c,
+            d,
+            na,
+            nb,
+            nc,
+            nd,
+        );
         numbers[j] = q.b;
+        last = q.b;
         st = q.st;
         a = d;
         b = c;

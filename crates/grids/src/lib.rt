@@ -1,6 +1,7 @@
 // Grids over surfaces, streamed into the welder: Soup::grid, Soup::param_box, box_shape, sphere and cylinder of src/tessellate.rs.
 mod boxes;
 mod grid;
+mod guesses;
 mod round;
 
 pub use boxes::is_full;

@@ -7,9 +7,9 @@ ghost use Rattle.soups.specs.Cylinder as Cylinder;
 use crate::boxes;
 use crate::grid;
 use math::Vec3;
-use surfaces::Turns;
 use soups::Chart;
 use soups::Surface;
+use surfaces::Turns;
 use weld::Welder;
 
 const TAU: f64 = 6.283185307179586;

@@ -22,6 +22,7 @@ pub fn weld_corners(
     d: Vec3,
     na: usize,
     nb: usize,
+    nc: usize,
     nd: usize,
 ) -> Quad
     requires { ⌜ Ready (held w (now vertices) (now triangles) (now work)) ⌝ }
@@ -33,10 +34,10 @@ pub fn weld_corners(
     let room = w.room;
     if room {
         if are_at(vertices, w, a, b, d, na, nb, nd) {
-            return weld_last(vertices, triangles, work, w, c, na, nb, nd);
+            return weld_last(vertices, triangles, work, w, c, na, nb, nd, nc);
         }
     }
-    weld_both(vertices, triangles, work, w, a, b, c, d, na, nb, nd)
+    weld_both(vertices, triangles, work, w, a, b, c, d, na, nb, nc, nd)
 }
 
 // Whether the guesses at the numbers of a, b and d are right.
@@ -61,7 +62,7 @@ fn are_at(
     false
 }
 
-// The two triangles of a quad of which a, b and d have the numbers na, nb and nd: one look-up.
+// The two triangles of a quad of which a, b and d have the numbers na, nb and nd: one look-up at most.
 fn weld_last(
     vertices: &mut [f64],
     triangles: &mut [u32],
@@ -71,6 +72,7 @@ fn weld_last(
     na: usize,
     nb: usize,
     nd: usize,
+    guess: usize,
 ) -> Quad
     requires { ⌜ Ready (held w (now vertices) (now triangles) (now work)) ⌝ }
     requires { ⌜ Clean c × (w .room ≡ true) × (na < 2 ^ 32) × (nb < 2 ^ 32) × (nd < 2 ^ 32) ⌝ }
@@ -78,7 +80,7 @@ fn weld_last(
         (held w (now (vertices .entry)) (now (triangles .entry)) (now (work .entry)))
         (held (r .st) (now (vertices .exit)) (now (triangles .exit)) (now (work .exit))) ⌝ }
 {
-    let t = weld::look_up(vertices, work, w, c);
+    let t = weld::weld_point(vertices, work, w, c, guess);
     let nc = t.number;
     let st = t.st;
     let u = weld::add_triangle(triangles, st, na, nb, nc);
@@ -104,6 +106,7 @@ fn weld_both(
     d: Vec3,
     na: usize,
     nb: usize,
+    nc: usize,
     nd: usize,
 ) -> Quad
     requires { ⌜ Ready (held w (now vertices) (now triangles) (now work)) ⌝ }
@@ -116,7 +119,7 @@ fn weld_both(
     let sa = pa.st;
     let pb = weld::weld_point(vertices, work, sa, b, nb);
     let sb = pb.st;
-    let pc = weld::look_up(vertices, work, sb, c);
+    let pc = weld::weld_point(vertices, work, sb, c, nc);
     let sc = pc.st;
     let u = weld::add_triangle(triangles, sc, pa.number, pb.number, pc.number);
     let pd = weld::weld_point(vertices, work, u, d, nd);

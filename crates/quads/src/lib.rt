@@ -20,7 +20,7 @@ pub struct Quad {
     pub d: usize,
 }
 
-// Soup::quad: the triangles a, b, c and a, c, d. The last three arguments are guesses at the numbers of a, b and d.
+// Soup::quad: the triangles a, b, c and a, c, d. The last four arguments are guesses at the numbers of a, b, c and d.
 pub fn weld_quad(
     vertices: &mut [f64],
     triangles: &mut [u32],
@@ -32,6 +32,7 @@ pub fn weld_quad(
     d: Vec3,
     na: usize,
     nb: usize,
+    nc: usize,
     nd: usize,
 ) -> Quad
     requires { ⌜ Ready (held w (now vertices) (now triangles) (now work)) ⌝ }
@@ -57,6 +58,7 @@ pub fn weld_quad(
         weld::plus_zero(d),
         na,
         nb,
+        nc,
         nd,
     )
 }

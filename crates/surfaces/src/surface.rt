@@ -82,7 +82,12 @@ fn face_at(
     ensures { λ r. ⌜ r ≡ Pieces.onFace chart k val u v i j ⌝ }
 {
     match chart {
-        Chart::Cartesian => points::face_point(k, val, points::line_at(u, i), points::line_at(v, j)),
+        Chart::Cartesian => points::face_point(
+            k,
+            val,
+            points::line_at(u, i),
+            points::line_at(v, j),
+        ),
         Chart::Cylindrical => {
             let p = polar_at(k, val, u, v, rows, cols, i, j);
             points::cylindrical_by(p.t, p.x, p.z)

@@ -12,8 +12,8 @@ ghost use Rattle.soups.specs.Surface.{surfaceAt};
 ghost use Rattle.soups.specs.Outline as Outline;
 ghost use Rattle.soups.specs.Polygons as Polygons;
 ghost use Rattle.sweeps.specs.Caps.{CapsWithin, capOf, capsOf, turnSpan};
-use surfaces::Turns;
 use soups::Surface;
+use surfaces::Turns;
 use weld::Welder;
 
 const TAU: f64 = 6.283185307179586;

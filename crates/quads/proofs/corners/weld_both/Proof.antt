@@ -13,42 +13,42 @@ weld-point-requires c κs = search needs
 weld-point-requires-2 : tie.Need-weld-point-requires-2
 weld-point-requires-2 c κs = search needs
 
-look-up-requires : tie.Need-look-up-requires
-look-up-requires c κs = (c .before .before .before .before .before .before .before .weld-point2 .ensures .linked, c .before .before .before .before .before .before .before .before .before .before .before .before .before .before .before .before .before .before .before .before .before .pre .1 .2)
+weld-point-requires-3 : tie.Need-weld-point-requires-3
+weld-point-requires-3 c κs = (c .before .before .before .before .before .before .before .weld-point2 .ensures .linked, c .before .before .before .before .before .before .before .before .before .before .before .before .before .before .before .before .before .before .before .before .before .pre .1 .2)
 
 add-triangle-requires : tie.Need-add-triangle-requires
 add-triangle-requires c κs = (
-  omega (arith, c .before .before .before .before .before .before .before .before .before .before .before .before .before .before .before .before .before .before .before .before .before .before .before .before .before .before .before .before .pre .0 .faces, c .before .before .before .before .before .before .before .before .before .before .before .before .before .before .before .before .before .before .before .before .before .before .weld-point .ensures .faces, c .before .before .before .before .before .before .before .before .before .before .before .before .before .before .weld-point2 .ensures .faces, c .before .before .before .before .before .before .look-up .ensures .faces),
+  omega (arith, c .before .before .before .before .before .before .before .before .before .before .before .before .before .before .before .before .before .before .before .before .before .before .before .before .before .before .before .before .pre .0 .faces, c .before .before .before .before .before .before .before .before .before .before .before .before .before .before .before .before .before .before .before .before .before .before .weld-point .ensures .faces, c .before .before .before .before .before .before .before .before .before .before .before .before .before .before .weld-point2 .ensures .faces, c .before .before .before .before .before .before .weld-point3 .ensures .faces),
   c .before .before .before .before .before .before .before .before .before .before .before .before .before .before .before .before .before .before .before .before .before .before .weld-point .ensures .small,
   c .before .before .before .before .before .before .before .before .before .before .before .before .before .before .weld-point2 .ensures .small,
-  c .before .before .before .before .before .before .look-up .ensures .small,
+  c .before .before .before .before .before .before .weld-point3 .ensures .small,
 )
 
-weld-point-requires-3 : tie.Need-weld-point-requires-3
-weld-point-requires-3 c κs =
+weld-point-requires-4 : tie.Need-weld-point-requires-4
+weld-point-requires-4 c κs =
     let r = c .before .before .before .before .add-triangle .ensures in
-    (linked-moved (c .before .before .before .before .before .before .before .before .before .before .before .look-up .result .st) (c .before .before .before .before .add-triangle .result) (r .base) (r .count) (r .places) (c .before .before .before .before .before .before .before .before .before .before .before .look-up .ensures .linked), c .before .before .before .before .before .before .before .before .before .before .before .before .before .before .before .before .before .before .before .before .before .before .before .before .before .before .before .before .before .before .before .before .before .pre .1 .3)
+    (linked-moved (c .before .before .before .before .before .before .before .before .before .before .before .weld-point3 .result .st) (c .before .before .before .before .add-triangle .result) (r .base) (r .count) (r .places) (c .before .before .before .before .before .before .before .before .before .before .before .weld-point3 .ensures .linked), c .before .before .before .before .before .before .before .before .before .before .before .before .before .before .before .before .before .before .before .before .before .before .before .before .before .before .before .before .before .before .before .before .before .pre .1 .3)
 
 add-triangle-requires-2 : tie.Need-add-triangle-requires-2
 add-triangle-requires-2 c κs =
-    (omega (arith, c .before .before .before .before .before .before .before .before .before .before .before .add-triangle .ensures .faces, c .before .before .before .before .before .before .weld-point3 .ensures .faces), c .before .before .before .before .before .before .before .before .before .before .before .before .before .before .before .before .before .before .before .before .before .before .before .before .before .before .before .before .before .before .before .before .before .before .weld-point .ensures .small, c .before .before .before .before .before .before .before .before .before .before .before .before .before .before .before .before .before .before .look-up .ensures .small, c .before .before .before .before .before .before .weld-point3 .ensures .small)
+    (omega (arith, c .before .before .before .before .before .before .before .before .before .before .before .add-triangle .ensures .faces, c .before .before .before .before .before .before .weld-point4 .ensures .faces), c .before .before .before .before .before .before .before .before .before .before .before .before .before .before .before .before .before .before .before .before .before .before .before .before .before .before .before .before .before .before .before .before .before .before .weld-point .ensures .small, c .before .before .before .before .before .before .before .before .before .before .before .before .before .before .before .before .before .before .weld-point3 .ensures .small, c .before .before .before .before .before .before .weld-point4 .ensures .small)
 
 same-length : tie.Need-same-length
-same-length c = c .before .before .before .before .before .before .before .before .before .weld-point3 .kept .0 ∙ c .before .before .before .before .before .before .before .before .before .before .before .before .before .before .before .before .before .before .before .before .before .look-up .kept .0 ∙ c .before .before .before .before .before .before .before .before .before .before .before .before .before .before .before .before .before .before .before .before .before .before .before .before .before .before .before .before .before .weld-point2 .kept .0 ∙ c .before .before .before .before .before .before .before .before .before .before .before .before .before .before .before .before .before .before .before .before .before .before .before .before .before .before .before .before .before .before .before .before .before .before .before .before .before .weld-point .kept .0
+same-length c = c .before .before .before .before .before .before .before .before .before .weld-point4 .kept .0 ∙ c .before .before .before .before .before .before .before .before .before .before .before .before .before .before .before .before .before .before .before .before .before .weld-point3 .kept .0 ∙ c .before .before .before .before .before .before .before .before .before .before .before .before .before .before .before .before .before .before .before .before .before .before .before .before .before .before .before .before .before .weld-point2 .kept .0 ∙ c .before .before .before .before .before .before .before .before .before .before .before .before .before .before .before .before .before .before .before .before .before .before .before .before .before .before .before .before .before .before .before .before .before .before .before .before .before .weld-point .kept .0
 
 same-length-2 : tie.Need-same-length-2
 same-length-2 c = search needs
 
 same-length-3 : tie.Need-same-length-3
-same-length-3 c = c .before .before .before .before .before .before .before .before .before .weld-point3 .kept .1 .0 ∙ c .before .before .before .before .before .before .before .before .before .before .before .before .before .before .before .before .before .before .before .before .before .look-up .kept .1 .0 ∙ c .before .before .before .before .before .before .before .before .before .before .before .before .before .before .before .before .before .before .before .before .before .before .before .before .before .before .before .before .before .weld-point2 .kept .1 .0 ∙ c .before .before .before .before .before .before .before .before .before .before .before .before .before .before .before .before .before .before .before .before .before .before .before .before .before .before .before .before .before .before .before .before .before .before .before .before .before .weld-point .kept .1 .0
+same-length-3 c = c .before .before .before .before .before .before .before .before .before .weld-point4 .kept .1 .0 ∙ c .before .before .before .before .before .before .before .before .before .before .before .before .before .before .before .before .before .before .before .before .before .weld-point3 .kept .1 .0 ∙ c .before .before .before .before .before .before .before .before .before .before .before .before .before .before .before .before .before .before .before .before .before .before .before .before .before .before .before .before .before .weld-point2 .kept .1 .0 ∙ c .before .before .before .before .before .before .before .before .before .before .before .before .before .before .before .before .before .before .before .before .before .before .before .before .before .before .before .before .before .before .before .before .before .before .before .before .before .weld-point .kept .1 .0
 
 returns : tie.Need-returns
 returns c =
     let x = c .before .before .before .before .before .before .before .before .before .before .before .before .before .before .before .before .before .before .before .before .before .before .before .before .before .before .before .before .before .before .before .before .before .before .before .before .before .weld-point in
     let y = c .before .before .before .before .before .before .before .before .before .before .before .before .before .before .before .before .before .before .before .before .before .before .before .before .before .before .before .before .before .weld-point2 in
-    let z = c .before .before .before .before .before .before .before .before .before .before .before .before .before .before .before .before .before .before .before .before .before .look-up in
+    let z = c .before .before .before .before .before .before .before .before .before .before .before .before .before .before .before .before .before .before .before .before .before .weld-point3 in
     let u = c .before .before .before .before .before .before .before .before .before .before .before .before .before .before .add-triangle in
-    let q = c .before .before .before .before .before .before .before .before .before .weld-point3 in
+    let q = c .before .before .before .before .before .before .before .before .before .weld-point4 in
     let v = c .before .before .add-triangle2 in
     both-runs _ _ _ _ _ _ _ _ (x .result) (x .last .0) (x .last .1 .0) (y .result) (y .last .0) (y .last .1 .0) (z .result) (z .last .0) (z .last .1 .0) (u .result) _
     (q .result) _ _ (v .result) _ (x .ensures) (y .ensures) (z .ensures) (u .ensures) (q .ensures) (v .ensures) (z .kept .0 ∙ y .kept .0 ∙ x .kept .0) (q .kept .0)
@@ -60,9 +60,9 @@ weld-both-spec =
     (tie.spec
     weld-point-requires
     weld-point-requires-2
-    look-up-requires
-    add-triangle-requires
     weld-point-requires-3
+    add-triangle-requires
+    weld-point-requires-4
     add-triangle-requires-2
     same-length
     same-length-2

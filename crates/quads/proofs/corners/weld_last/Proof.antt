@@ -1,12 +1,12 @@
--- `quads::corners::weld_last` meets its contract: one look-up, then two triangles. Assumes nothing.
+-- `quads::corners::weld_last` meets its contract: one look-up at most, then two triangles. Assumes nothing.
 use borrow.Author.Needs.{needs}
 use denote.Ref.{now}
 use Rattle.quads.proofs.Quads.{last-runs}
 use Rattle.quads.proofs.corners.weld_last.Statement.{statement}
 use Rattle.quads.proofs.corners.weld_last.Tie as tie
 
-look-up-requires : tie.Need-look-up-requires
-look-up-requires c κs = search needs
+weld-point-requires : tie.Need-weld-point-requires
+weld-point-requires c κs = search needs
 
 add-triangle-requires : tie.Need-add-triangle-requires
 add-triangle-requires c κs = search needs
@@ -26,7 +26,7 @@ same-length-3 c = search needs
 returns : tie.Need-returns
 returns c =
     let s = c .before .before .before .before .before .before .before .before .before .before .before .before .before .before .before .before .before .before .before in
-    let t = c .before .before .before .before .before .before .before .before .before .before .before .before .before .look-up in
+    let t = c .before .before .before .before .before .before .before .before .before .before .before .before .before .weld-point in
     let u = c .before .before .before .before .before .before .add-triangle in
     let v = c .before .before .add-triangle2 in
     last-runs (s .args .w) (now (s .args .vertices)) (now (s .args .triangles)) (now (s .args .work)) (s .pre .0) (s .pre .1 .1) (s .args .c) (s .args .na) (s .args .nb)
@@ -37,7 +37,7 @@ pub weld-last-spec : {M : Type 1} → statement M
 weld-last-spec =
     tie.close
     (tie.spec
-    look-up-requires
+    weld-point-requires
     add-triangle-requires
     add-triangle-requires-2
     same-length

@@ -1,0 +1,30 @@
+// Guesses at the numbers of points. The welder tests each, so a wrong one costs a look-up and nothing else.
+ghost use mathlib.Core.Path.{_≡_};
+ghost use mathlib.Core.Bool.{cond};
+ghost use Rattle.trimesh.specs.Mesh.{samePoint};
+use math::Vec3;
+
+// The guess at p's number where q's is n: n if the points are equal, or else another guess.
+pub fn same_or(p: Vec3, q: Vec3, n: usize, other: usize) -> usize
+    ensures { λ r. ⌜ r ≡ cond (samePoint p q) n other ⌝ }
+{
+    if p.x == q.x {
+        if p.y == q.y {
+            if p.z == q.z {
+                return n;
+            }
+        }
+    }
+    other
+}
+
+// The guess at a point's number where those of the two points before it are `last` and n: as far on from n. Points of an earlier
+// grid were numbered there at even distances.
+pub fn onward(last: usize, n: usize, none: usize) -> usize {
+    if last < n {
+        if n < 4294967296 {
+            return n + (n - last);
+        }
+    }
+    none
+}
