@@ -1,5 +1,2 @@
--- The soups that the functions weld, put together from their pieces.
+-- Laws that the proofs of `grids` use.
 pub mod Cells
-pub mod Faces
-pub mod BoxRuns
-pub mod RoundRuns

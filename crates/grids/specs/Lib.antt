@@ -1,3 +1,2 @@
--- What the contracts of `grids` cite beside the definitions of `soups`.
+-- What the contracts of `grids` cite.
 pub mod Cell
-pub mod Box

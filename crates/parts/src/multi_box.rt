@@ -41,7 +41,7 @@ fn weld_box_part(
 {
     let a = point_at(list, 2 * i);
     let b = point_at(list, 2 * i + 1);
-    let boxed = grids::weld_box_shape(vertices, triangles, work, w, a, b, cylindrical, segments);
+    let boxed = boxes::weld_box_shape(vertices, triangles, work, w, a, b, cylindrical, segments);
     let part = weld::new_part(boxed);
     part
 }

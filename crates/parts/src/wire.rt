@@ -42,7 +42,7 @@ fn weld_tube_part(
 {
     let a = wire_point(list, i, cylindrical);
     let b = wire_point(list, i + 1, cylindrical);
-    let tube = grids::weld_cylinder(vertices, triangles, work, w, a, b, 0.0, r, segments);
+    let tube = rounds::weld_cylinder(vertices, triangles, work, w, a, b, 0.0, r, segments);
     let part = weld::new_part(tube);
     part
 }
@@ -67,7 +67,7 @@ fn weld_joint_part(
         (held k (now (vertices .exit)) (now (triangles .exit)) (now (work .exit))) ⌝ }
 {
     let c = wire_point(list, i, cylindrical);
-    let joint = grids::weld_sphere(vertices, triangles, work, w, c, r, segments, rings, false);
+    let joint = rounds::weld_sphere(vertices, triangles, work, w, c, r, segments, rings, false);
     let part = weld::new_part(joint);
     part
 }

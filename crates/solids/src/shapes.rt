@@ -29,7 +29,7 @@ pub fn weld_shape(
     let segments = options.segments;
     let rings = options.sphere_rings;
     match shape {
-        Shape::Box { start, stop } => weld::new_part(grids::weld_box_shape(
+        Shape::Box { start, stop } => weld::new_part(boxes::weld_box_shape(
             vertices,
             triangles,
             work,
@@ -63,7 +63,7 @@ pub fn weld_shape(
             center,
             radius,
             shell_width,
-        } => weld::new_part(grids::weld_spherical_shell(
+        } => weld::new_part(rounds::weld_spherical_shell(
             vertices,
             triangles,
             work,

@@ -27,7 +27,7 @@ pub fn weld_sphere_at(
         (held k (now (vertices .exit)) (now (triangles .exit)) (now (work .exit))) ⌝ }
 {
     let c = points::to_cartesian(center, cylindrical);
-    grids::weld_sphere(
+    rounds::weld_sphere(
         vertices,
         triangles,
         work,
@@ -59,7 +59,7 @@ pub fn weld_cylinder_at(
 {
     let a = points::to_cartesian(start, cylindrical);
     let b = points::to_cartesian(stop, cylindrical);
-    grids::weld_cylinder(vertices, triangles, work, w, a, b, 0.0, radius, segments)
+    rounds::weld_cylinder(vertices, triangles, work, w, a, b, 0.0, radius, segments)
 }
 
 pub fn weld_cylindrical_shell(
@@ -83,7 +83,7 @@ pub fn weld_cylindrical_shell(
     let a = points::to_cartesian(start, cylindrical);
     let b = points::to_cartesian(stop, cylindrical);
     let half = width / 2.0;
-    grids::weld_cylinder(
+    rounds::weld_cylinder(
         vertices,
         triangles,
         work,

@@ -9,7 +9,7 @@ use lib.Seq.{length-take-le}
 use Rattle.soups.specs.Arc.{arcSegments}
 use Rattle.soups.specs.Boxes.{isFull}
 use Rattle.surfaces.proofs.Tables.{filled-less}
-use Rattle.grids.proofs.BoxRuns.{arc-few, arc-some}
+use Rattle.boxes.proofs.BoxRuns.{arc-few, arc-some}
 use Rattle.sweeps.proofs.OutlineRuns.{caps-front, rotated-within, rotated-none, rotated-full, rotated-part}
 use Rattle.sweeps.proofs.outlines.weld_rotated_from.Statement.{statement}
 use Rattle.sweeps.proofs.outlines.weld_rotated_from.Tie as tie

@@ -1,0 +1,3 @@
+-- Laws that the proofs of `boxes` use.
+pub mod FaceRuns
+pub mod BoxRuns

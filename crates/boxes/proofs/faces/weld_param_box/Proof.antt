@@ -1,0 +1,44 @@
+-- `boxes::faces::weld_param_box` meets its contract. Assumes nothing.
+use Rattle.boxes.proofs.FaceRuns.{guesses-kept, box-runs}
+use native.Mathlib.Omega.{arith}
+use mathlib.Core.Path.{sym, _∙_}
+use Rattle.boxes.proofs.faces.weld_param_box.Statement.{statement}
+use Rattle.boxes.proofs.faces.weld_param_box.Tie as tie
+
+weld-faces-requires : tie.Need-weld-faces-requires
+weld-faces-requires c κs = (c .before .before .before .before .before .before .before .before .before .pre .0, (omega arith, c .before .before .before .before .before .before .before .before .before .pre .1))
+
+weld-faces-requires-2 : tie.Need-weld-faces-requires-2
+weld-faces-requires-2 c κs = (c .before .before .before .before .before .before .before .before .before .before .before .before .weld-faces .ensures .ready, (omega arith, guesses-kept (c .before .before .before .before .before .before .before .before .before .before .before .before .weld-faces .kept .1 .1 .1 .1 .1 .1 .1 .1 .1 .1 .0) (c .before .before .before .before .before .before .before .before .before .before .before .before .before .before .before .before .before .before .before .before .before .before .pre .1)))
+
+weld-faces-requires-3 : tie.Need-weld-faces-requires-3
+weld-faces-requires-3 c κs = (c .before .before .before .before .before .before .before .before .before .before .before .before .weld-faces2 .ensures .ready, (omega arith, guesses-kept (c .before .before .before .before .before .before .before .before .before .before .before .before .weld-faces2 .kept .1 .1 .1 .1 .1 .1 .1 .1 .1 .1 .0 ∙ c .before .before .before .before .before .before .before .before .before .before .before .before .before .before .before .before .before .before .before .before .before .before .before .before .before .weld-faces .kept .1 .1 .1 .1 .1 .1 .1 .1 .1 .1 .0) (c .before .before .before .before .before .before .before .before .before .before .before .before .before .before .before .before .before .before .before .before .before .before .before .before .before .before .before .before .before .before .before .before .before .before .before .pre .1)))
+
+same-length : tie.Need-same-length
+same-length c = c .before .before .before .before .before .before .before .before .weld-faces3 .ensures .vlong ∙ c .before .before .before .before .before .before .before .before .before .before .before .before .before .before .before .before .before .before .before .before .before .weld-faces2 .ensures .vlong ∙ c .before .before .before .before .before .before .before .before .before .before .before .before .before .before .before .before .before .before .before .before .before .before .before .before .before .before .before .before .before .before .before .before .before .before .weld-faces .ensures .vlong
+
+same-length-2 : tie.Need-same-length-2
+same-length-2 c = c .before .before .before .before .before .before .before .before .weld-faces3 .ensures .tlong ∙ c .before .before .before .before .before .before .before .before .before .before .before .before .before .before .before .before .before .before .before .before .before .weld-faces2 .ensures .tlong ∙ c .before .before .before .before .before .before .before .before .before .before .before .before .before .before .before .before .before .before .before .before .before .before .before .before .before .before .before .before .before .before .before .before .before .before .weld-faces .ensures .tlong
+
+same-length-3 : tie.Need-same-length-3
+same-length-3 c = c .before .before .before .before .before .before .before .before .weld-faces3 .ensures .wlong ∙ c .before .before .before .before .before .before .before .before .before .before .before .before .before .before .before .before .before .before .before .before .before .weld-faces2 .ensures .wlong ∙ c .before .before .before .before .before .before .before .before .before .before .before .before .before .before .before .before .before .before .before .before .before .before .before .before .before .before .before .before .before .before .before .before .before .before .weld-faces .ensures .wlong
+
+same-length-4 : tie.Need-same-length-4
+same-length-4 c =
+    c .before .before .before .before .before .before .before .before .weld-faces3 .kept .1 .1 .1 .1 .1 .1 .1 .1 .1 .1 .0 ∙ c .before .before .before .before .before .before .before .before .before .before .before .before .before .before .before .before .before .before .before .before .before .weld-faces2 .kept .1 .1 .1 .1 .1 .1 .1 .1 .1 .1 .0 ∙ c .before .before .before .before .before .before .before .before .before .before .before .before .before .before .before .before .before .before .before .before .before .before .before .before .before .before .before .before .before .before .before .before .before .before .weld-faces .kept .1 .1 .1 .1 .1 .1 .1 .1 .1 .1 .0
+
+returns : tie.Need-returns
+returns c = box-runs _ _ _ _ _ _ _ _ _ (c .before .before .before .before .before .before .before .before .before .before .before .before .before .before .before .before .before .before .before .before .before .before .before .before .before .before .before .before .before .before .before .before .before .before .weld-faces .ensures) (c .before .before .before .before .before .before .before .before .before .before .before .before .before .before .before .before .before .before .before .before .before .weld-faces2 .ensures) (c .before .before .before .before .before .before .before .before .weld-faces3 .ensures)
+
+pub weld-param-box-spec : {M : Type 1} → statement M
+weld-param-box-spec =
+    tie.close
+    (tie.spec
+    weld-faces-requires
+    weld-faces-requires-2
+    weld-faces-requires-3
+    same-length
+    same-length-2
+    same-length-3
+    same-length-4
+    returns)

@@ -1,0 +1,2 @@
+-- The soups that the functions weld, put together from their pieces.
+pub mod RoundRuns
