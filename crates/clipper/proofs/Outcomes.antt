@@ -1,41 +1,25 @@
 -- Laws of `clipOutline`, in the form that the code goes by. Assumes nothing.
 use Prim.Native.Nat.{ℕ, zero, suc, _+_, _-_, _*_, _/_, _%_, _<_, _≤_}
 use mathlib.Core.Path.{_≡_, refl, sym, ap, _∙_}
-use mathlib.Core.Bool.{Bool, true, false, not, _&&_, _||_}
+use mathlib.Core.Bool.{Bool, true, false, not, _||_}
 use mathlib.Core.List.{List, [], _∷_, _++_}
 use native.Mathlib.Numerals.{add-one}
 use native.Mathlib.Nat.{sub-zero, zero-sub, suc-sub-suc}
 use native.Mathlib.Omega.{arith}
-use lib.ListN.{length, getD, take, drop, set, replicate, take-append-drop, drop-of-length-le}
-use lib.Seq.{drop-cons, take-suc, take-suc-set, drop-set-lt, take-at}
-use lib.Ieee.{Float, nan}
+use lib.ListN.{length, getD, take, drop, set, replicate, take-append-drop}
+use lib.Seq.{take-suc, take-suc-set, drop-set-lt, take-at}
+use lib.Ieee.{Float}
 use lib.Ieee.Scale.{finite}
 use borrow.Author.Tests.{lt-ltb, le-ltb, eq-eqb, ne-eqb}
 use Rattle.refusal.specs.Number.{numberOf}
 use Rattle.refusal.specs.declared.Refusal.the-variants.{Accepted, BadList, NotFinite, NoRoom}
+use Rattle.slices.specs.Every.{every}
 use Rattle.clipper.specs.Triangulate.{State, triangulatePolygon}
 use Rattle.clipper.specs.Slices.{Gives}
-use Rattle.clipper.specs.Outcome.{Outcome, refusedBy, accepted, allFinite, pickOutcome, clipOutline, outcomeOf}
+use Rattle.clipper.specs.Outcome.{Outcome, refusedBy, accepted, pickOutcome, clipOutline, outcomeOf}
 use Rattle.clipper.specs.declared.Cut.{Cut}
 use Rattle.clipper.specs.declared.Clipped.{Clipped}
 use Rattle.clipper.proofs.Writing.{drop-more}
-
--- ---- finite numbers
-
-module _ (v : List Float) (i : ℕ) where
-  all-next : i < length v → allFinite (drop i v) ≡ (finite (getD v i nan) && allFinite (drop (i + 1) v))
-  unfolding allFinite
-  all-next h = rw (add-one, drop-cons v i nan)
-
-  pub all-here : i < length v → finite (getD v i nan) ≡ false → false ≡ allFinite (drop i v)
-  all-here h e = sym (all-next h ∙ rw e)
-
-  pub all-on : i < length v → finite (getD v i nan) ≡ true → allFinite (drop (i + 1) v) ≡ allFinite (drop i v)
-  all-on h e = sym (all-next h ∙ rw e)
-
-  pub all-end : length v ≤ i → allFinite (drop i v) ≡ true
-  unfolding allFinite
-  all-end h = rw (drop-of-length-le v {i = i} h)
 
 -- ---- copies
 
@@ -76,11 +60,11 @@ module _ (v : List Float) (m : ℕ) where
     outcome-odd h = rw (le-ltb 1024 (length v) short, eq-eqb (length v % 2) 1 h)
 
     module _ (even : length v % 2 ≡ 1 → ⊥) where
-      pub outcome-infinite : allFinite v ≡ false → refusedBy NotFinite m ≡ clipOutline v m
+      pub outcome-infinite : every finite v ≡ false → refusedBy NotFinite m ≡ clipOutline v m
       unfolding clipOutline pickOutcome
       outcome-infinite h = rw (le-ltb 1024 (length v) short, ne-eqb (length v % 2) 1 even, h)
 
-      module _ (all : allFinite v ≡ true) (c : Cut) (b a : List ℕ) (g : Gives (triangulatePolygon v) c b a) where
+      module _ (all : every finite v ≡ true) (c : Cut) (b a : List ℕ) (g : Gives (triangulatePolygon v) c b a) where
         count : length (triangulatePolygon v .triangles) / 3 ≡ c .triangles
         count = omega (arith, g .count)
 

@@ -1,8 +1,8 @@
 -- Clipping an outline by itself (document 01, "Who can be told no"): the checks 4, 1, 7 in that order, the counts and the triangle slice at the end.
 -- v is the corner list as given, and m the length of the triangle slice. Assumes nothing.
 use Prim.Native.Nat.{ℕ, _-_, _/_, _%_}
-use mathlib.Core.Bool.{Bool, true, false, not, _&&_, _||_}
-use mathlib.Core.List.{List, [], _∷_, _++_}
+use mathlib.Core.Bool.{Bool, true, false, not, _||_}
+use mathlib.Core.List.{List, _++_}
 use lib.ListN.{length, replicate}
 use lib.Dec.{ltb, eqb}
 use lib.Ieee.{Float}
@@ -10,6 +10,7 @@ use lib.Ieee.Scale.{finite}
 use Rattle.refusal.specs.Number.{numberOf}
 use Rattle.refusal.specs.declared.Refusal.{Refusal}
 use Rattle.refusal.specs.declared.Refusal.the-variants.{Accepted, BadList, NotFinite, NoRoom}
+use Rattle.slices.specs.Every.{every}
 use Rattle.clipper.specs.declared.Clipped.{Clipped}
 use Rattle.clipper.specs.Triangulate.{State, triangulatePolygon}
 
@@ -28,11 +29,6 @@ refusedBy r m = record { refusal = numberOf r; triangles = 0; removed = 0; slice
 unfoldable pub accepted : State → ℕ → Outcome
 accepted s m = record { refusal = numberOf Accepted; triangles = length (s .triangles) / 3; removed = s .removed; slice = s .triangles ++ replicate (m - length (s .triangles)) 0 }
 
--- every number is finite
-unfoldable pub allFinite : List Float → Bool
-allFinite [] = true
-allFinite (x ∷ v) = finite x && allFinite v
-
 unfoldable pub pickOutcome : Bool → Outcome → Outcome → Outcome
 pickOutcome true a b = a
 pickOutcome false a b = b
@@ -42,7 +38,7 @@ unfoldable pub clipOutline : List Float → ℕ → Outcome
 unfolding pickOutcome
 clipOutline v m =
     pickOutcome (ltb 1024 (length v) || eqb (length v % 2) 1) (refusedBy BadList m)
-    (pickOutcome (not (allFinite v)) (refusedBy NotFinite m)
+    (pickOutcome (not (every finite v)) (refusedBy NotFinite m)
     (pickOutcome (ltb (m / 3) (length (triangulatePolygon v .triangles) / 3)) (refusedBy NoRoom m)
     (accepted (triangulatePolygon v) m)))
 

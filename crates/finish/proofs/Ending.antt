@@ -1,11 +1,11 @@
 -- What the lent slices hold at the end of a call. Assumes nothing.
-use mathlib.Core.Path.{_≡_, refl, sym, ap, _∙_, subst}
+use mathlib.Core.Path.{_≡_, refl, _∙_, subst}
 use mathlib.Core.List.{List, _++_}
 use Prim.Native.Nat.{ℕ, _*_, _-_}
-use native.Mathlib.Omega.{arith}
 use lib.ListN.{length, take, drop, replicate}
 use lib.Ieee.{Float, binary64, ofBits}
 use Rattle.slices.specs.Cleared.{clearedFrom}
+use Rattle.slices.proofs.Clearing.{cleared-all}
 use Rattle.balance.specs.Buffer.{flat}
 use Rattle.refusal.specs.declared.Refusal.{Refusal}
 use Rattle.trimesh.specs.Mesh.{Mesh}
@@ -17,13 +17,6 @@ use Rattle.outcome.specs.Outcome.{Outcome, refusedAs, acceptedAs}
 use Rattle.outcome.specs.declared.Tessellated.{Tessellated}
 use Rattle.outcome.specs.Gives.{Gives}
 use Rattle.finish.specs.Ends.{Keeps, Closes}
-
--- a slice cleared from its start on
-pub cleared-all : {A : Type 0} (z : A) (l : List A) → clearedFrom z 0 l ≡ replicate (length l) z
-unfolding clearedFrom
-cleared-all {A} z l =
-    let e : length l - 0 ≡ length l = omega arith in
-    ap {B = List A} (λ (n : ℕ). replicate n z) e
 
 -- the same outcome written in another way
 pub gives-as : {o q : Outcome} {r : Tessellated} {vs : List Float} {ts ws : List ℕ} → o ≡ q → Gives o r vs ts ws → Gives q r vs ts ws

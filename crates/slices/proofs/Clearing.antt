@@ -64,3 +64,10 @@ module _ {A : Type 0} (z : A) where
     where
       all : i - f ≡ length l - f
       all = omega (arith, c .from, c .same, c .within)
+
+-- a slice cleared from its start on
+pub cleared-all : {A : Type 0} (z : A) (l : List A) → clearedFrom z 0 l ≡ replicate (length l) z
+unfolding clearedFrom
+cleared-all {A} z l =
+    let e : length l - 0 ≡ length l = omega arith in
+    ap {B = List A} (λ (n : ℕ). replicate n z) e

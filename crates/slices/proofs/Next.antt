@@ -6,7 +6,7 @@ use Prim.Native.Nat.{ℕ, zero, suc, _+_, _≤_, _<_}
 use native.Mathlib.Omega.{arith}
 use native.Mathlib.Numerals.{add-one}
 use lib.ListN.{length, take, drop, getD, drop-of-length-le}
-use lib.Seq.{drop-cons, getD-take, getD-drop, length-take-le}
+use lib.Seq.{drop-cons, take-length, getD-take, getD-drop, length-take-le}
 use Rattle.slices.specs.Every.{every}
 
 -- x stands at place i of the list
@@ -57,6 +57,10 @@ module _ {A : Type 0} (k : A → Bool) where
   pub every-done : (l : List A) (i : ℕ) (ok : Bool) → length l ≤ i → (ok && every k (drop i l)) ≡ every k l → ok ≡ every k l
   every-done l i true h e = sym (every-end l i h) ∙ e
   every-done l i false h e = e
+
+  -- as many as there are: all
+  pub every-all : (l : List A) → every k (take (length l) l) ≡ every k l
+  every-all l = ap {B = Bool} (every k) (take-length l)
 
   pub every-at : (l : List A) (n i : ℕ) (d : A) → every k (take n l) ≡ true → i < n → n ≤ length l → k (getD l i d) ≡ true
   unfolding every

@@ -10,6 +10,7 @@ use lib.Ieee.{Float}
 use native.Mathlib.Omega.{arith}
 use borrow.Author.Tests.{lt-ltb, le-ltb, ltb-false}
 use Rattle.slices.specs.Cleared.{clearedFrom}
+use Rattle.slices.proofs.Clearing.{cleared-all}
 use Rattle.trimesh.specs.Mesh.{Mesh, noMesh, append, appendParts, fromParts}
 use Rattle.trimesh.specs.WeldLaws.{append-none}
 use Rattle.soups.specs.Grid.{Soup}
@@ -28,7 +29,6 @@ use Rattle.mesh.specs.State.{state, stored}
 use Rattle.outcome.specs.Solid.{partsFinite}
 use Rattle.outcome.specs.Outcome.{tooFewPlaces, shortWork}
 use Rattle.tessellate.specs.Steps.{countsOf, Drawable, Welded}
-use Rattle.finish.proofs.Ending.{cleared-all}
 use Rattle.finish.proofs.Lying.{lies}
 
 -- ---- the work slice before the welding

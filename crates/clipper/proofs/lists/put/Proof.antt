@@ -1,11 +1,11 @@
--- `clipper::put` meets its contract. Assumes nothing.
+-- `clipper::lists::put` meets its contract. Assumes nothing.
 use denote.Ref.{now}
 use native.Mathlib.Omega.{arith}
 use lib.ListN.{length-set}
 use Rattle.clipper.proofs.Writing.{put-wrote}
 use borrow.Author.Needs.{needs}
-use Rattle.clipper.proofs.put.Statement.{statement}
-use Rattle.clipper.proofs.put.Tie as tie
+use Rattle.clipper.proofs.lists.put.Statement.{statement}
+use Rattle.clipper.proofs.lists.put.Tie as tie
 
 mul-i : tie.Need-mul-i
 mul-i c = search needs

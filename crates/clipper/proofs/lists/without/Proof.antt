@@ -1,4 +1,4 @@
--- `clipper::without` meets its contract. Assumes nothing.
+-- `clipper::lists::without` meets its contract. Assumes nothing.
 use mathlib.Core.Path.{_≡_, refl, sym, ap, _∙_}
 use native.Mathlib.Omega.{arith}
 use Prim.Native.Nat.{ℕ, _≤_, _<_, _-_, _+_}
@@ -6,8 +6,8 @@ use lib.ListN.{length, take, drop, length-set}
 use Rattle.clipper.specs.Triangulate.{without}
 use Rattle.clipper.proofs.Writing.{take-short, take-without, shift-done, shift-rest}
 use borrow.Author.Needs.{needs}
-use Rattle.clipper.proofs.without.Statement.{statement}
-use Rattle.clipper.proofs.without.Tie as tie
+use Rattle.clipper.proofs.lists.without.Statement.{statement}
+use Rattle.clipper.proofs.lists.without.Tie as tie
 
 abbrev Inv-loop : tie.InvT-loop
 Inv-loop k n out₀ i₀ out i = (k ≤ i) × (i < n) × (length (out .at) ≡ 512) × (take i (out .at) ≡ take i (without k (out₀ .at))) × (drop i (out .at) ≡ drop i (out₀ .at))

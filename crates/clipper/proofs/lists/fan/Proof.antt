@@ -1,4 +1,4 @@
--- `clipper::fan` meets its contract. Assumes nothing.
+-- `clipper::lists::fan` meets its contract. Assumes nothing.
 use denote.Ref.{now}
 use mathlib.Core.Path.{_≡_, refl, sym, ap, _∙_}
 use native.Mathlib.Omega.{arith}
@@ -6,8 +6,8 @@ use Prim.Native.Nat.{_≤_, _<_, _-_, _+_}
 use lib.ListN.{length, getD, take}
 use lib.Seq.{getD-take, length-take-le}
 use Rattle.clipper.proofs.Writing.{Fanning, fanning-start, fanning-next, fanning-end}
-use Rattle.clipper.proofs.fan.Statement.{statement}
-use Rattle.clipper.proofs.fan.Tie as tie
+use Rattle.clipper.proofs.lists.fan.Statement.{statement}
+use Rattle.clipper.proofs.lists.fan.Tie as tie
 
 abbrev Inv-loop : tie.InvT-loop
 Inv-loop at n t out₀ a k₀ out k = (1 ≤ k) × (k < n) × (length out ≡ length out₀) × Fanning t k a (take n at) out₀ out

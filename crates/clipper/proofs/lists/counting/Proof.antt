@@ -1,4 +1,4 @@
--- `clipper::counting` meets its contract. Assumes nothing.
+-- `clipper::lists::counting` meets its contract. Assumes nothing.
 use mathlib.Core.Path.{_≡_, refl, sym, ap, _∙_}
 use native.Mathlib.Omega.{arith}
 use Prim.Native.Nat.{ℕ, _≤_, _-_}
@@ -6,8 +6,8 @@ use mathlib.Core.List.{[]}
 use lib.ListN.{length, take, length-set}
 use Rattle.clipper.specs.Triangulate.{counting}
 use Rattle.clipper.proofs.Writing.{counting-none, count-step}
-use Rattle.clipper.proofs.counting.Statement.{statement}
-use Rattle.clipper.proofs.counting.Tie as tie
+use Rattle.clipper.proofs.lists.counting.Statement.{statement}
+use Rattle.clipper.proofs.lists.counting.Tie as tie
 
 abbrev Inv-loop : tie.InvT-loop
 Inv-loop n out₀ i₀ out i = (i ≤ n) × (out .n ≡ n) × (length (out .at) ≡ 512) × (take i (out .at) ≡ counting 0 i)

@@ -1,9 +1,9 @@
--- `clipper::fan_rest` meets its contract. Assumes nothing.
+-- `clipper::passes::fan_rest` meets its contract. Assumes nothing.
 use denote.Ref.{now}
 use Rattle.clipper.proofs.Steps.{fan-goes}
 use borrow.Author.Needs.{needs}
-use Rattle.clipper.proofs.fan_rest.Statement.{statement}
-use Rattle.clipper.proofs.fan_rest.Tie as tie
+use Rattle.clipper.proofs.passes.fan_rest.Statement.{statement}
+use Rattle.clipper.proofs.passes.fan_rest.Tie as tie
 
 fan-requires : tie.Need-fan-requires
 fan-requires c κs = search needs

@@ -1,11 +1,11 @@
--- `clipper::pass` meets its contract. Assumes nothing.
+-- `clipper::passes::pass` meets its contract. Assumes nothing.
 use denote.Ref.{now}
 use mathlib.Core.Path.{sym, _∙_}
 use Rattle.clipper.specs.Slices.{stateOf}
 use Rattle.clipper.proofs.Steps.{ear-below, flat-below, pass-ear, pass-flat, pass-fan, goes-to}
 use borrow.Author.Needs.{needs}
-use Rattle.clipper.proofs.pass.Statement.{statement}
-use Rattle.clipper.proofs.pass.Tie as tie
+use Rattle.clipper.proofs.passes.pass.Statement.{statement}
+use Rattle.clipper.proofs.passes.pass.Tie as tie
 
 first-ear-requires : tie.Need-first-ear-requires
 first-ear-requires c κs = search needs

@@ -1,8 +1,8 @@
--- `clipper::refused` meets its contract. Assumes nothing.
+-- `clipper::call::refused` meets its contract. Assumes nothing.
 use mathlib.Core.Path.{refl}
 use Rattle.clipper.specs.Outcome.{refusedBy}
-use Rattle.clipper.proofs.refused.Statement.{statement}
-use Rattle.clipper.proofs.refused.Tie as tie
+use Rattle.clipper.proofs.call.refused.Statement.{statement}
+use Rattle.clipper.proofs.call.refused.Tie as tie
 
 returns : tie.Need-returns
 unfolding refusedBy

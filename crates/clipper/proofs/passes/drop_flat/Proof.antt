@@ -1,8 +1,8 @@
--- `clipper::drop_flat` meets its contract. Assumes nothing.
+-- `clipper::passes::drop_flat` meets its contract. Assumes nothing.
 use Rattle.clipper.proofs.Steps.{drop-goes}
 use borrow.Author.Needs.{needs}
-use Rattle.clipper.proofs.drop_flat.Statement.{statement}
-use Rattle.clipper.proofs.drop_flat.Tie as tie
+use Rattle.clipper.proofs.passes.drop_flat.Statement.{statement}
+use Rattle.clipper.proofs.passes.drop_flat.Tie as tie
 
 without-requires : tie.Need-without-requires
 without-requires c κs = search needs

@@ -1,4 +1,4 @@
--- `clipper::finish` meets its contract. Assumes nothing.
+-- `clipper::passes::finish` meets its contract. Assumes nothing.
 use denote.Ref.{now}
 use mathlib.Core.Path.{_≡_, refl, sym, ap, _∙_}
 use native.Mathlib.Nat.{le-refl, le-add-right}
@@ -8,8 +8,8 @@ use Rattle.outline.specs.Corners.{point}
 use Rattle.ears.specs.Ears.{cross}
 use Rattle.clipper.proofs.Steps.{triangle-gives, flat-gives, few-gives}
 use borrow.Author.Needs.{needs}
-use Rattle.clipper.proofs.finish.Statement.{statement}
-use Rattle.clipper.proofs.finish.Tie as tie
+use Rattle.clipper.proofs.passes.finish.Statement.{statement}
+use Rattle.clipper.proofs.passes.finish.Tie as tie
 
 element-copy-out-i : tie.Need-element-copy-out-i
 element-copy-out-i c = search needs

@@ -1,17 +1,20 @@
--- `clipper::clip_outline` meets its contract. Assumes nothing.
+-- `clipper::call::clip_outline` meets its contract. Assumes nothing.
 use denote.Ref.{now}
 use mathlib.Core.Path.{_≡_, refl, sym, ap, _∙_}
 use native.Mathlib.Omega.{arith}
 use Prim.Native.Nat.{_*_, _<_, _≤_, _/_}
 use lib.ListN.{length}
+use lib.Ieee.Scale.{finite}
 use borrow.Author.Tests.{not-true, not-false}
+use Rattle.slices.proofs.Clearing.{cleared-all}
+use Rattle.slices.proofs.Next.{every-all}
 use Rattle.clipper.proofs.Outcomes.{outcome-refused, outcome-long, outcome-odd, outcome-infinite, outcome-room, outcome-done}
 use borrow.Author.Needs.{needs}
-use Rattle.clipper.proofs.clip_outline.Statement.{statement}
-use Rattle.clipper.proofs.clip_outline.Tie as tie
+use Rattle.clipper.proofs.call.clip_outline.Statement.{statement}
+use Rattle.clipper.proofs.call.clip_outline.Tie as tie
 
-clear-requires : tie.Need-clear-requires
-clear-requires c κs = search needs
+clear-numbers-requires : tie.Need-clear-numbers-requires
+clear-numbers-requires c κs = search needs
 
 refused-requires : tie.Need-refused-requires
 refused-requires c κs = search needs
@@ -24,7 +27,7 @@ returns c =
     let a = c .before .before .before .before .before .before .before .before .args in
     let v = now (a .list) in
     let m = length (now (a .triangles)) in
-    outcome-refused (c .refused .result) _ m _ _ (c .before .before .before .before .clear .ensures) (c .refused .ensures m) (outcome-long v m (c .before .if1 .taken))
+    outcome-refused (c .refused .result) _ m _ _ (c .before .before .before .before .clear-numbers .ensures ∙ cleared-all 0 (now (a .triangles))) (c .refused .ensures m) (outcome-long v m (c .before .if1 .taken))
 
 refused-requires-2 : tie.Need-refused-requires-2
 refused-requires-2 c κs = search needs
@@ -37,7 +40,7 @@ returns-2 c =
     let a = c .before .before .before .before .before .before .before .before .before .args in
     let v = now (a .list) in
     let m = length (now (a .triangles)) in
-    outcome-refused (c .refused2 .result) _ m _ _ (c .before .before .before .before .before .clear .ensures) (c .refused2 .ensures m)
+    outcome-refused (c .refused2 .result) _ m _ _ (c .before .before .before .before .before .clear-numbers .ensures ∙ cleared-all 0 (now (a .triangles))) (c .refused2 .ensures m)
     (outcome-odd v m (c .before .before .if1 .left) (c .before .if2 .taken))
 
 all-finite-requires : tie.Need-all-finite-requires
@@ -54,9 +57,9 @@ returns-3 c =
     let a = c .before .before .before .before .before .before .before .before .before .before .before .args in
     let v = now (a .list) in
     let m = length (now (a .triangles)) in
-    outcome-refused (c .refused3 .result) _ m _ _ (c .before .before .before .before .before .before .before .clear .ensures) (c .refused3 .ensures m)
+    outcome-refused (c .refused3 .result) _ m _ _ (c .before .before .before .before .before .before .before .clear-numbers .ensures ∙ cleared-all 0 (now (a .triangles))) (c .refused3 .ensures m)
     (outcome-infinite v m (c .before .before .before .before .if1 .left) (c .before .before .before .if2 .left)
-    (sym (c .before .before .all-finite .ensures) ∙ not-true _ (c .before .if3 .taken)))
+    (sym (every-all finite v) ∙ sym (c .before .before .all-finite .ensures) ∙ not-true _ (c .before .if3 .taken)))
 
 triangulate-polygon-requires : tie.Need-triangulate-polygon-requires
 triangulate-polygon-requires c κs = search needs
@@ -72,10 +75,10 @@ returns-4 c =
     let a = c .before .before .before .before .before .before .before .before .before .before .before .before .before .before .before .args in
     let v = now (a .list) in
     let m = length (now (a .triangles)) in
-    let cleared = c .before .before .before .before .before .before .before .before .before .before .before .clear in
+    let cleared = c .before .before .before .before .before .before .before .before .before .before .before .clear-numbers in
     let l : length (cleared .last .0) ≡ m = cleared .kept .0 in
-    let all = sym (c .before .before .before .before .before .before .all-finite .ensures) ∙ not-false _ (c .before .before .before .before .before .if3 .left) in
-    outcome-refused (c .refused4 .result) _ m _ _ (c .before .before .before .before .before .before .before .before .before .before .before .clear .ensures) (c .refused4 .ensures m)
+    let all = sym (every-all finite v) ∙ sym (c .before .before .before .before .before .before .all-finite .ensures) ∙ not-false _ (c .before .before .before .before .before .if3 .left) in
+    outcome-refused (c .refused4 .result) _ m _ _ (c .before .before .before .before .before .before .before .before .before .before .before .clear-numbers .ensures ∙ cleared-all 0 (now (a .triangles))) (c .refused4 .ensures m)
     (outcome-room v m (c .before .before .before .before .before .before .before .before .if1 .left) (c .before .before .before .before .before .before .before .if2 .left) all _ _ _
     (c .before .before .before .triangulate-polygon .ensures .0) (omega (arith, c .before .if4 .taken)))
 
@@ -98,20 +101,20 @@ returns-5 c =
     let a = c .before .before .before .before .before .before .before .before .before .before .before .before .before .before .before .before .before .before .before .before .args in
     let v = now (a .list) in
     let m = length (now (a .triangles)) in
-    let cleared = c .before .before .before .before .before .before .before .before .before .before .before .before .before .before .before .before .clear in
+    let cleared = c .before .before .before .before .before .before .before .before .before .before .before .before .before .before .before .before .clear-numbers in
     let l : length (cleared .last .0) ≡ m = cleared .kept .0 in
-    let all = sym (c .before .before .before .before .before .before .before .before .before .before .before .all-finite .ensures) ∙ not-false _
+    let all = sym (every-all finite v) ∙ sym (c .before .before .before .before .before .before .before .before .before .before .before .all-finite .ensures) ∙ not-false _
     (c .before .before .before .before .before .before .before .before .before .before .if3 .left) in
     outcome-done v m (c .before .before .before .before .before .before .before .before .before .before .before .before .before .if1 .left)
     (c .before .before .before .before .before .before .before .before .before .before .before .before .if2 .left) all _ _ _
     (c .before .before .before .before .before .before .before .before .triangulate-polygon .ensures .0) _ _ (omega (arith, c .before .before .before .before .before .before .if4 .left))
-    (c .before .before .before .before .before .before .before .before .before .before .before .before .before .before .before .before .clear .ensures) (c .before .before .copy .ensures)
+    (c .before .before .before .before .before .before .before .before .before .before .before .before .before .before .before .before .clear-numbers .ensures ∙ cleared-all 0 (now (a .triangles))) (c .before .before .copy .ensures)
 
 pub clip-outline-spec : {M : Type 1} → statement M
 clip-outline-spec =
     tie.close
     (tie.spec
-    clear-requires
+    clear-numbers-requires
     refused-requires
     same-length
     returns

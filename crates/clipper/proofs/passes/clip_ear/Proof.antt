@@ -1,9 +1,9 @@
--- `clipper::clip_ear` meets its contract. Assumes nothing.
+-- `clipper::passes::clip_ear` meets its contract. Assumes nothing.
 use denote.Ref.{now}
 use Rattle.clipper.proofs.Steps.{clip-goes}
 use borrow.Author.Needs.{needs}
-use Rattle.clipper.proofs.clip_ear.Statement.{statement}
-use Rattle.clipper.proofs.clip_ear.Tie as tie
+use Rattle.clipper.proofs.passes.clip_ear.Statement.{statement}
+use Rattle.clipper.proofs.passes.clip_ear.Tie as tie
 
 ear-at-requires : tie.Need-ear-at-requires
 ear-at-requires c κs = search needs

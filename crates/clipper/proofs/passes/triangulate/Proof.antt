@@ -1,4 +1,4 @@
--- `clipper::triangulate` meets its contract. Assumes nothing.
+-- `clipper::passes::triangulate` meets its contract. Assumes nothing.
 use denote.Ref.{now}
 use mathlib.Core.Path.{_≡_, refl, sym, ap, _∙_}
 use native.Mathlib.Omega.{arith}
@@ -9,8 +9,8 @@ use Rattle.clipper.specs.Triangulate.{passes, start, counting}
 use Rattle.clipper.specs.Slices.{stateOf, Fit, held}
 use Rattle.clipper.proofs.Writing.{counting-inside, drop-more}
 use Rattle.clipper.proofs.Steps.{Reaches, square-enough, reaches-next, reaches-end, triangulate-few, triangulate-is, start-is, gives-from, gives-short}
-use Rattle.clipper.proofs.triangulate.Statement.{statement}
-use Rattle.clipper.proofs.triangulate.Tie as tie
+use Rattle.clipper.proofs.passes.triangulate.Statement.{statement}
+use Rattle.clipper.proofs.passes.triangulate.Tie as tie
 
 abbrev Inv-loop : tie.InvT-loop
 Inv-loop corners out₀ n e w₀ out w =
