@@ -35,8 +35,9 @@ use Rattle.soups.proofs.PartsBalanced.{EachPart, BalancedPart, FitsAll, pointAt
 use Rattle.shape.specs.declared.Shape.{Shape}
 use Rattle.shape.specs.declared.Shape.the-variants.{Box, MultiBox, Sphere, SphericalShell, Cylinder, CylindricalShell, Polygon, LinPoly, RotPoly, Wire}
 use Rattle.shape.specs.declared.TessellationOptions.{TessellationOptions}
-use Rattle.shape.specs.Drawing.{itemFloats, listOf, allFinite, shapeFinite}
+use Rattle.shape.specs.Drawing.{itemFloats, listOf, shapeFinite}
 use Rattle.shape.specs.DrawingLaws.{finite-at}
+use Rattle.slices.specs.Every.{every}
 use Rattle.outcome.specs.Solid.{partsOf, partsFinite}
 use Rattle.demand.specs.Words.{FitsShape, UnequalBounds, EachUnequal, FullTurn, Solid}
 
@@ -75,14 +76,14 @@ bounded : (a b : Vec3) → FitsV a → FitsV b → FiniteV a → FiniteV b → U
 bounded a b fa fb na nb u =
     record { fits-a = fa; fits-b = fb; finite-a = na; finite-b = nb; unequal-x = u .x; unequal-y = u .y; unequal-z = u .z }
 
-point-finite : (v : List Float) → allFinite v ≡ true → (i : ℕ) → 3 * i + 2 < length v → FiniteV (pointAt v i)
+point-finite : (v : List Float) → every finite v ≡ true → (i : ℕ) → 3 * i + 2 < length v → FiniteV (pointAt v i)
 unfolding pointAt
 point-finite v h i l = record { x = at (3 * i) (omega arith); y = at (3 * i + 1) (omega arith); z = at (3 * i + 2) l }
   where
     at : (k : ℕ) → k < length v → T (finite (getD v k nan))
     at k b = true-T (finite (getD v k nan)) (finite-at v k b h)
 
-boxes-bounded : (v : List Float) → FitsAll v → allFinite v ≡ true → EachUnequal v → (i : ℕ) → i < length v / 6 → Bounded (pointAt v (2 * i)) (pointAt v (2 * i + 1))
+boxes-bounded : (v : List Float) → FitsAll v → every finite v ≡ true → EachUnequal v → (i : ℕ) → i < length v / 6 → Bounded (pointAt v (2 * i)) (pointAt v (2 * i + 1))
 boxes-bounded v f h u i l =
     bounded (pointAt v (2 * i)) (pointAt v (2 * i + 1)) (pointAt-fits v f (2 * i)) (pointAt-fits v f (2 * i + 1))
     (point-finite v h (2 * i) (omega arith)) (point-finite v h (2 * i + 1) (omega arith)) (u i l)
@@ -95,7 +96,7 @@ turned-or start stop A (inl full) e = absurd (true-T false (sym e ∙ full))
 turned-or start stop A (inr a) e = a
 
 module _ (cylindrical : Bool) (v : List Float) (o : TessellationOptions) (few : o .segments ≤ 1024) (f : FitsAll v) where
-  pub parts-balanced : (s : Shape) → FitsShape s → shapeFinite s ≡ true → allFinite (listOf (itemFloats s) v) ≡ true → Solid s v → EachPart BalancedPart (partsOf cylindrical s v o)
+  pub parts-balanced : (s : Shape) → FitsShape s → shapeFinite s ≡ true → every finite (listOf (itemFloats s) v) ≡ true → Solid s v → EachPart BalancedPart (partsOf cylindrical s v o)
   unfolding partsOf shapeFinite itemFloats listOf
   parts-balanced (Box a b) g n l u =
       let t = true-T (vFinite a && vFinite b) n in

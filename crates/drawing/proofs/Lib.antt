@@ -1,3 +1,2 @@
 -- What the proofs of `drawing` share.
-pub mod Loops
 pub mod Order

@@ -1,24 +1,11 @@
 // Refusal 1: a number given is not finite.
 ghost use mathlib.Core.Path.{_≡_};
 ghost use lib.ListN.{take};
+ghost use lib.Ieee.Scale.{finite};
+ghost use Rattle.slices.specs.Every.{every};
 ghost use Rattle.shape.specs.Drawing as Drawing;
 use shape::Shape;
 use transform::TransformOp;
-
-// Whether every float of a list is finite.
-pub fn all_finite(list: &[f64]) -> bool
-    ensures { λ r. ⌜ r ≡ Drawing.allFinite (now (list .entry)) ⌝ }
-{
-    let mut i = 0;
-    while i < list.len() {
-        let good = ieee::is_finite(list[i]);
-        if !good {
-            return false;
-        }
-        i += 1;
-    }
-    true
-}
 
 // Whether every number of the shape itself is finite.
 fn shape_finite(shape: Shape) -> bool
@@ -67,12 +54,12 @@ fn shape_finite(shape: Shape) -> bool
 
 // Whether every float of a list is finite, of which a shape without items reads none.
 fn list_finite(k: usize, list: &[f64]) -> bool
-    ensures { λ r. ⌜ r ≡ Drawing.allFinite (Drawing.listOf k (now (list .entry))) ⌝ }
+    ensures { λ r. ⌜ r ≡ every finite (Drawing.listOf k (now (list .entry))) ⌝ }
 {
     if k == 0 {
         return true;
     }
-    all_finite(list)
+    slices::all_finite(list, list.len())
 }
 
 // Refusal 1 on the shape, its list and the first `op_count` operations.

@@ -4,7 +4,6 @@ ghost use Rattle.shape.specs.Drawing as Drawing;
 
 mod finite;
 
-pub use finite::all_finite;
 use refusal::Refusal;
 use shape::CoordSystem;
 use shape::OwnSystem;

@@ -13,6 +13,7 @@ use Rattle.refusal.specs.declared.Refusal.the-variants.{Accepted, NotFinite, An
 use Rattle.transform.specs.declared.TransformOp.{TransformOp}
 use Rattle.transform.specs.Angle.{within1000}
 use Rattle.transform.specs.Checks.{opsFinite, opsAnglesWithin}
+use Rattle.slices.specs.Every.{every}
 use Rattle.shape.specs.declared.Shape.{Shape}
 use Rattle.shape.specs.declared.Shape.the-variants.{Box, MultiBox, Sphere, SphericalShell, Cylinder, CylindricalShell, Polygon, LinPoly, RotPoly, Wire}
 use Rattle.shape.specs.declared.CoordSystem.{CoordSystem}
@@ -81,11 +82,6 @@ badList k n = not (eqb k 0) && (not (eqb (n % k) 0) || ltb (mostItems k) (n / k)
 unfoldable pub listOf : ℕ → List Float → List Float
 listOf k list = cond (eqb k 0) [] list
 
--- every float is finite
-unfoldable pub allFinite : List Float → Bool
-allFinite [] = true
-allFinite (x ∷ xs) = finite x && allFinite xs
-
 -- every number of the shape itself is finite, those that tessellation does not use too
 unfoldable pub shapeFinite : Shape → Bool
 shapeFinite (Box a b) = vFinite a && vFinite b
@@ -141,7 +137,7 @@ pick false r s = s
 
 -- refusal 1 is due
 unfoldable pub numbersBad : Shape → List Float → List TransformOp → Bool
-numbersBad shape list ops = not (shapeFinite shape && allFinite (listOf (itemFloats shape) list) && opsFinite ops)
+numbersBad shape list ops = not (shapeFinite shape && every finite (listOf (itemFloats shape) list) && opsFinite ops)
 
 -- refusal 2 is due
 unfoldable pub anglesBad : Bool → Shape → List Float → Bool → List TransformOp → Bool

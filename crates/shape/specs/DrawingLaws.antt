@@ -1,9 +1,9 @@
 -- What is known of a drawing that refusals 3, 4, 1 and 2 let pass. Laws of the definitions in Drawing. Assumes nothing.
-use Prim.Native.Nat.{ℕ, zero, suc, _/_, _%_, _<_, _≤_}
-use mathlib.Core.Path.{_≡_, refl}
+use Prim.Native.Nat.{ℕ, _/_, _%_, _<_, _≤_}
+use mathlib.Core.Path.{_≡_, refl, _∙_}
 use mathlib.Core.Bool.{Bool, true, false, not, _&&_, _||_}
-use mathlib.Core.List.{List, [], _∷_}
-use native.Mathlib.Nat.{not-suc-le-zero, le-of-suc-le-suc}
+use mathlib.Core.List.{List}
+use native.Mathlib.Omega.{arith}
 use lib.ListN.{length, getD, take}
 use lib.Dec.{ltb, eqb}
 use lib.Ieee.{Float, nan}
@@ -12,11 +12,13 @@ use borrow.Author.Tests.{ltb-false, eqb-true, not-false}
 use Rattle.refusal.specs.declared.Refusal.the-variants.{Accepted, NotFinite, AngleTooLarge, TooManySegments, BadList}
 use Rattle.transform.specs.declared.TransformOp.{TransformOp}
 use Rattle.transform.specs.Checks.{opsFinite, opsAnglesWithin}
+use Rattle.slices.specs.Every.{every}
+use Rattle.slices.proofs.Next.{every-at, every-all}
 use Rattle.shape.specs.declared.Shape.{Shape}
 use Rattle.shape.specs.declared.CoordSystem.{CoordSystem}
 use Rattle.shape.specs.declared.OwnSystem.{OwnSystem}
 use Rattle.shape.specs.declared.TessellationOptions.{TessellationOptions}
-use Rattle.shape.specs.Drawing.{shapeCs, cylindrical, tooManySegments, itemFloats, mostItems, badList, listOf, allFinite, shapeFinite, shapeWithin, listWithin}
+use Rattle.shape.specs.Drawing.{shapeCs, cylindrical, tooManySegments, itemFloats, mostItems, badList, listOf, shapeFinite, shapeWithin, listWithin}
 use Rattle.shape.specs.Drawing.{pick, numbersBad, anglesBad, drawingRefusal}
 
 -- a drawing that passes; the angles of points count where `shapeCs` is cylindrical
@@ -27,7 +29,7 @@ pub record AcceptedDrawing (shape : Shape) (list : List Float) (own : OwnSystem)
   pub list-whole : badList (itemFloats shape) (length list) ≡ false
   pub count-most : count ≤ 16
   pub shape-finite : shapeFinite shape ≡ true
-  pub list-finite : allFinite (listOf (itemFloats shape) list) ≡ true
+  pub list-finite : every finite (listOf (itemFloats shape) list) ≡ true
   pub ops-finite : opsFinite (take count ops) ≡ true
   pub shape-within : shapeWithin (cylindrical (shapeCs shape own default)) shape ≡ true
   pub list-within : listWithin (cylindrical (shapeCs shape own default)) (itemFloats shape) (listOf (itemFloats shape) list) ≡ true
@@ -75,16 +77,16 @@ accepted shape list own default options ops count degrees e =
     let p = passed _ _ _ _ e in
     let numbers = not-false _ (p .one) in
     let angles = not-false _ (p .two) in
-    let numbers-front = and-left (shapeFinite shape && allFinite (listOf k list)) (opsFinite (take count ops)) numbers in
+    let numbers-front = and-left (shapeFinite shape && every finite (listOf k list)) (opsFinite (take count ops)) numbers in
     let angles-front = and-left (shapeWithin cyl shape && listWithin cyl k (listOf k list)) (opsAnglesWithin degrees (take count ops)) angles in
     record {
       segments-most = ltb-false 1024 (options .segments) (or-left _ (ltb 1024 (options .«sphere_rings»)) (p .three));
       rings-most = ltb-false 1024 (options .«sphere_rings») (or-right (ltb 1024 (options .segments)) _ (p .three));
       list-whole = or-left (badList k (length list)) (ltb 16 count) (p .four);
       count-most = ltb-false 16 count (or-right (badList k (length list)) (ltb 16 count) (p .four));
-      shape-finite = and-left (shapeFinite shape) (allFinite (listOf k list)) numbers-front;
-      list-finite = and-right (shapeFinite shape) (allFinite (listOf k list)) numbers-front;
-      ops-finite = and-right (shapeFinite shape && allFinite (listOf k list)) (opsFinite (take count ops)) numbers;
+      shape-finite = and-left (shapeFinite shape) (every finite (listOf k list)) numbers-front;
+      list-finite = and-right (shapeFinite shape) (every finite (listOf k list)) numbers-front;
+      ops-finite = and-right (shapeFinite shape && every finite (listOf k list)) (opsFinite (take count ops)) numbers;
       shape-within = and-left (shapeWithin cyl shape) (listWithin cyl k (listOf k list)) angles-front;
       list-within = and-right (shapeWithin cyl shape) (listWithin cyl k (listOf k list)) angles-front;
       ops-within = and-right (shapeWithin cyl shape && listWithin cyl k (listOf k list)) (opsAnglesWithin degrees (take count ops)) angles;
@@ -110,8 +112,5 @@ boxes-whole n e = (eqb-true (n % 6) 0 (not-false _ (or-left _ (ltb 256 (n / 6)) 
 -- ---- finite lists
 
 -- each float of a finite list is finite
-pub finite-at : (list : List Float) (i : ℕ) → i < length list → allFinite list ≡ true → finite (getD list i nan) ≡ true
-unfolding allFinite
-finite-at [] i h e = absurd (not-suc-le-zero h)
-finite-at (x ∷ xs) zero h e = and-left (finite x) (allFinite xs) e
-finite-at (x ∷ xs) (suc i) h e = finite-at xs i (le-of-suc-le-suc h) (and-right (finite x) (allFinite xs) e)
+pub finite-at : (list : List Float) (i : ℕ) → i < length list → every finite list ≡ true → finite (getD list i nan) ≡ true
+finite-at list i h e = every-at finite list (length list) i nan (every-all finite list ∙ e) h (omega arith)

@@ -3,7 +3,9 @@ use borrow.Author.Needs.{needs}
 use mathlib.Core.Path.{ap, ap₂, _∙_}
 use mathlib.Core.Bool.{not, _&&_}
 use Prim.Native.Nat.{ℕ}
-use Rattle.shape.specs.Drawing.{listOf, allFinite, numbersBad}
+use lib.Ieee.Scale.{finite}
+use Rattle.slices.specs.Every.{every}
+use Rattle.shape.specs.Drawing.{listOf, numbersBad}
 use Rattle.drawing.proofs.finite.numbers_bad.Statement.{statement}
 use Rattle.drawing.proofs.finite.numbers_bad.Tie as tie
 
@@ -23,7 +25,7 @@ returns : tie.Need-returns
 unfolding numbersBad
 returns c =
     let list = c .before .before .before .before .before .args .list .now in
-    let read = c .before .list-finite .ensures ∙ ap (λ (k : ℕ). allFinite (listOf k list)) (c .before .before .item-floats .ensures) in
+    let read = c .before .list-finite .ensures ∙ ap (λ (k : ℕ). every finite (listOf k list)) (c .before .before .item-floats .ensures) in
     ap not (ap₂ _&&_ (ap₂ _&&_ (c .before .before .before .shape-finite .ensures) read) (c .ops-finite .ensures))
 
 pub numbers-bad-spec : {M : Type 1} → statement M
