@@ -6,9 +6,10 @@ use mathlib.Core.List.{List, [], _∷_, _++_, append-assoc, append-nil}
 use native.Mathlib.Numerals.{add-one}
 use native.Mathlib.Nat.{not-suc-le-zero, le-of-suc-le-suc}
 use native.Mathlib.Omega.{arith}
-use lib.ListN.{length, getD, take, drop, set, replicate, length-take, length-drop, length-append, take-append-drop, drop-of-length-le}
-use lib.Seq.{drop-cons, take-suc-set, length-take-le, take-at, drop-at}
+use lib.ListN.{length, getD, take, drop, replicate, length-drop, length-append, take-append-drop}
+use lib.Seq.{drop-cons, length-take-le, take-at, drop-at}
 use lib.Ieee.{Float, nan, binary64, lt, ofBits}
+use Rattle.slices.specs.Cleared.{clearedFrom}
 use Rattle.outline.specs.Corners.{point, padded}
 use Rattle.outline.specs.Clean.{cleanPolygon}
 use Rattle.outline.specs.Area.{signedArea}
@@ -22,33 +23,9 @@ zeroes n = replicate n (ofBits binary64 0)
 
 -- ---- the rest of a slice is cleared
 
-replicate-end : (n : ℕ) (x : Float) → replicate n x ++ (x ∷ []) ≡ replicate (suc n) x
-replicate-end zero x = refl
-replicate-end (suc n) x = ap {B = List Float} (λ l. x ∷ l) (replicate-end n x)
-
--- what the loop keeps: the first k floats, and +0.0 up to place i
-pub cleared-next : (k i : ℕ) (b o : List Float) → k ≤ i → i < length o → take i o ≡ take k b ++ zeroes (i - k)
-    → take (i + 1) (set o i (ofBits binary64 0)) ≡ take k b ++ zeroes (i + 1 - k)
-cleared-next k i b o h hl e =
-    let s : suc (i - k) ≡ i + 1 - k = omega arith in
-    ap (λ (n : ℕ). take n (set o i (ofBits binary64 0))) (add-one i)
-    ∙ take-suc-set o i (ofBits binary64 0) hl
-    ∙ ap (λ (l : List Float). l ++ (ofBits binary64 0 ∷ [])) e
-    ∙ append-assoc (take k b) (zeroes (i - k)) (ofBits binary64 0 ∷ [])
-    ∙ ap (λ (l : List Float). take k b ++ l) (replicate-end (i - k) (ofBits binary64 0) ∙ ap (λ (n : ℕ). zeroes n) s)
-
-pub cleared-start : (k : ℕ) (b : List Float) → take k b ≡ take k b ++ zeroes (k - k)
-cleared-start k b = let s : k - k ≡ 0 = omega arith in sym (append-nil (take k b)) ∙ ap (λ (n : ℕ). take k b ++ zeroes n) (sym s)
-
-pub take-all : {A : Type 0} (n : ℕ) (l : List A) → length l ≤ n → take n l ≡ l
-take-all n l h = sym (append-nil (take n l)) ∙ ap (λ (r : List _). take n l ++ r) (sym (drop-of-length-le l {i = n} h)) ∙ take-append-drop n l
-
-pub cleared-end : (k i : ℕ) (b o : List Float) → k ≤ length b → length o ≡ length b → length o ≤ i → i ≤ length o → take i o ≡ take k b ++ zeroes (i - k)
-    → o ≡ padded (take k b) (length b)
-unfolding padded
-cleared-end k i b o h hl hi hi' e =
-    let s : i - k ≡ length b - length (take k b) = omega (arith, length-take-le k b h) in
-    sym (take-all i o hi) ∙ e ∙ ap (λ (n : ℕ). take k b ++ zeroes n) s
+pub cleared-padded : (k : ℕ) (l : List Float) → k ≤ length l → clearedFrom (ofBits binary64 0) k l ≡ padded (take k l) (length l)
+unfolding clearedFrom padded
+cleared-padded k l h = ap (λ (n : ℕ). take k l ++ zeroes (length l - n)) (sym (length-take-le k l h))
 
 -- ---- the corners are copied
 

@@ -95,18 +95,6 @@ fn stay(out: &[f64], m: usize) -> usize
     k
 }
 
-// Every float of out from place k on becomes +0.0.
-fn clear_from(out: &mut [f64], k: usize)
-    requires { ⌜ k ≤ length (now out) ⌝ }
-    ensures { λ _. ⌜ now (out .exit) ≡ padded (take k (now (out .entry))) (length (now (out .entry))) ⌝ }
-{
-    let mut i = k;
-    while i < out.len() {
-        out[i] = 0.0;
-        i += 1;
-    }
-}
-
 // Each corner of v in its turn, equal neighbours once; and how many there are.
 fn gather(v: &[f64], out: &mut [f64]) -> usize
     requires { ⌜ length (now v) ≤ length (now out) ⌝ }
@@ -130,7 +118,7 @@ pub fn clean_polygon(v: &[f64], out: &mut [f64]) -> usize
 {
     let m = gather(v, out);
     let n = stay(out, m);
-    clear_from(out, 2 * n);
+    slices::clear_floats(out, 2 * n);
     n
 }
 
