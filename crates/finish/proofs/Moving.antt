@@ -1,5 +1,5 @@
 -- A mesh under a matrix. Assumes nothing.
-use mathlib.Core.Path.{_≡_, refl, sym, ap, _∙_}
+use mathlib.Core.Path.{_≡_, sym, ap, _∙_}
 use mathlib.Core.Bool.{Bool, true, false, cond}
 use mathlib.Core.List.{List, map}
 use Prim.Native.Nat.{ℕ, _*_, _≤_, _<_}
@@ -13,24 +13,17 @@ use Rattle.math.specs.Vec.{vFinite}
 use Rattle.transform.specs.declared.TransformOp.{TransformOp}
 use Rattle.transform.specs.Ops.{folded}
 use Rattle.balance.specs.Soup.{flip as flipTri}
-use Rattle.trimesh.specs.Mesh.{Mesh, flip}
-use Rattle.trimesh.specs.Edits.{moved, transform}
+use Rattle.trimesh.specs.Mesh.{Mesh}
+use Rattle.trimesh.specs.Edits.{transform}
 use Rattle.trimesh.specs.Slices.{points}
 use Rattle.refusal.specs.declared.Refusal.the-variants.{PointNotFinite}
 use Rattle.slices.specs.Every.{every}
 use Rattle.mesh.specs.State.{State, state, meshOf, stored, Sound}
 use Rattle.triples.specs.Triples.{eachTo, movedTriple}
 use Rattle.mesh.proofs.Stored.{stored-moved, stored-mirrored}
+use Rattle.mesh.proofs.Outcomes.{transform-mirrors, transform-moves, transform-vertices}
 use Rattle.outcome.specs.Outcome.{Outcome, refusedAs, acceptedAs}
 use Rattle.finish.specs.Ends.{movedAs, placedAs}
-
-transform-mirrors : (a : Mat4) (m : Mesh) → lt (determinant a) (ofBits binary64 0) ≡ true → transform a m ≡ flip (moved a m)
-unfolding transform
-transform-mirrors a m e = rw e
-
-transform-moves : (a : Mat4) (m : Mesh) → lt (determinant a) (ofBits binary64 0) ≡ false → transform a m ≡ moved a m
-unfolding transform
-transform-moves a m e = rw e
 
 -- ---- the two ends of `move_mesh`
 module _ (s : State) (ok : Sound s) (a : Mat4) (d : Float) (is : d ≡ determinant a) (vs : List Float) (v : vs ≡ eachTo (movedTriple a) (s .mesh .vertices) (s .vertices)) where
@@ -47,14 +40,6 @@ module _ (s : State) (ok : Sound s) (a : Mat4) (d : Float) (is : d ≡ determina
       ∙ sym (ap {B = State} (λ (m : Mesh). stored m s) (transform-moves a (meshOf s) (sym (ap {B = Bool} (λ (x : Float). lt x (ofBits binary64 0)) is) ∙ e)))
 
 -- ---- the test of the transformed vertices
-transform-vertices : (a : Mat4) (m : Mesh) → transform a m .vertices ≡ map (transformPoint a) (m .vertices)
-unfolding transform moved flip
-transform-vertices a m = go (lt (determinant a) (ofBits binary64 0))
-  where
-    go : (b : Bool) → cond b (flip (moved a m)) (moved a m) .vertices ≡ map (transformPoint a) (m .vertices)
-    go true = refl
-    go false = refl
-
 module _ (a : Mat4) (s : State) (r : Bool) (is : r ≡ every vFinite (map (transformPoint a) (points (take (3 * s .mesh .vertices) (s .vertices))))) (nv nt nw : ℕ) where
   tested : every vFinite (transform a (meshOf s) .vertices) ≡ r
   unfolding meshOf

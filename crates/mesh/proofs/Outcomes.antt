@@ -160,6 +160,7 @@ module _ (ops : List TransformOp) (count : ℕ) (degrees : Bool) (s : State) whe
           unfolding transformRefusal
           transform-point r b h e f = rw (good, short, known, within, e, f) (sym h)
 
+-- ---- a mesh under a matrix
 pub transform-mirrors : (a : Mat4) (m : Mesh) → lt (determinant a) (ofBits binary64 0) ≡ true → transform a m ≡ flip (moved a m)
 unfolding transform
 transform-mirrors a m e = rw e
@@ -168,7 +169,7 @@ pub transform-moves : (a : Mat4) (m : Mesh) → lt (determinant a) (ofBits binar
 unfolding transform
 transform-moves a m e = rw e
 
-transform-vertices : (a : Mat4) (m : Mesh) → transform a m .vertices ≡ map (transformPoint a) (m .vertices)
+pub transform-vertices : (a : Mat4) (m : Mesh) → transform a m .vertices ≡ map (transformPoint a) (m .vertices)
 unfolding transform moved flip
 transform-vertices a m = go (lt (determinant a) (ofBits binary64 0))
   where
