@@ -32,8 +32,7 @@ fn shape_within(cyl: bool, shape: Shape) -> bool
             start_angle,
             stop_angle,
             ..
-        } => opcheck::within_1000(Radians(start_angle))
-            & opcheck::within_1000(Radians(stop_angle)),
+        } => opcheck::within_1000(Radians(start_angle)) & opcheck::within_1000(Radians(stop_angle)),
         Shape::Wire { .. } => true,
     }
 }

@@ -3,8 +3,8 @@ ghost use mathlib.Core.Path.{_≡_};
 ghost use Prim.Native.Nat.{_+_, _≤_};
 ghost use lib.ListN.{length};
 ghost use Rattle.cases.specs.Layout.{opAt, vecAt, rowAt, matrixAt};
-use matrix::Row;
 use math::Vec3;
+use matrix::Row;
 use transform::TransformOp;
 
 // Three floats from place at on.

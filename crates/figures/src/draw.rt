@@ -1,11 +1,11 @@
 // Runs tessellate and writes its answer.
 use crate::text;
 use mesh::TriMesh;
+use outcome::Tessellated;
 use shape::CoordSystem;
 use shape::OwnSystem;
 use shape::Shape;
 use shape::TessellationOptions;
-use outcome::Tessellated;
 use transform::TransformOp;
 
 // "N vertices, M triangles", or the refusal.

@@ -5,8 +5,8 @@ ghost use lib.ListN.{length};
 ghost use Rattle.outcome.specs.Outcome.{refusedAs};
 ghost use Rattle.outcome.specs.Gives.{Gives};
 ghost use Rattle.finish.specs.Ends.{Keeps, Closes};
-use outcome::Tessellated;
 use mesh::TriMesh;
+use outcome::Tessellated;
 use refusal::Refusal;
 
 // The counted places stay. Every later place is zero, a broken last one included, and so is the work slice.

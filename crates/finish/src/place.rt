@@ -5,11 +5,11 @@ ghost use Rattle.trimesh.specs.Edits.{transform};
 ghost use Rattle.mesh.specs.State.{state, meshOf, stored, Sound};
 ghost use Rattle.outcome.specs.Gives.{Gives};
 ghost use Rattle.finish.specs.Ends.{movedAs, placedAs, turned, Whole};
-use outcome::Tessellated;
 use crate::answers;
 use crate::turn;
 use matrix::Mat4;
 use mesh::TriMesh;
+use outcome::Tessellated;
 use refusal::Refusal;
 use transform::TransformOp;
 

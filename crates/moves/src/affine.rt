@@ -12,8 +12,8 @@ ghost use Rattle.trimesh.specs.Slices.{points};
 ghost use Rattle.slices.specs.Every.{every};
 ghost use Rattle.triples.specs.Triples.{eachTo, movedTriple};
 ghost use Rattle.moves.specs.Affine.{Affine, affinePoint, Movable};
-use matrix::Mat4;
 use math::Vec3;
+use matrix::Mat4;
 use triples::put_vertex;
 use triples::vertex;
 

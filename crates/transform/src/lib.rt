@@ -4,9 +4,9 @@ ghost use Prim.Native.Nat.{min};
 ghost use lib.ListN.{take};
 ghost use Rattle.transform.specs.Angle as Angle;
 ghost use Rattle.transform.specs.Ops as Ops;
+use math::Vec3;
 use matrix::Mat4;
 use matrix::Row;
-use math::Vec3;
 
 // An angle in degrees. It becomes radians by to_radians and in no other way.
 pub struct Degrees(pub f64);
