@@ -1,7 +1,7 @@
 // The hash chains in the work slice. They find the vertex that equals a point, as the `HashMap` of from_soup does.
 ghost use mathlib.Core.Path.{_≡_};
 ghost use mathlib.Core.Bool.{true};
-ghost use Prim.Native.Nat.{_+_, _*_, _<_, _≤_, _^_};
+ghost use Prim.Native.Nat.{_+_, _-_, _*_, _<_, _≤_, _^_};
 ghost use lib.ListN.{length};
 ghost use Rattle.trimesh.specs.Mesh.{samePoint};
 ghost use Rattle.chain.specs.Points.{Clean, vertexAt, placed};
@@ -163,4 +163,42 @@ pub fn place_of(
             }
         }
     }
+}
+
+// The head of p's chain: one more than the number of a vertex, or 0.
+pub fn head(work: &[u32], places: usize, p: Vec3) -> usize
+    requires { ⌜ (0 < places) × (places < 2 ^ 32) × Clean p ⌝ }
+    requires { ⌜ places ≤ length (now work) ⌝ }
+{
+    let bucket = bucket_of(p, places);
+    wide(work[bucket])
+}
+
+// One less than k, and 0 for 0.
+fn less_one(k: usize) -> usize
+    ensures { λ r. ⌜ r ≡ k - 1 ⌝ }
+{
+    if 0 < k { k - 1 } else { 0 }
+}
+
+// A step along a chain: k where vertex k − 1 equals p, else what follows k. It is for guesses, so nothing is said of the answer. There is no
+// test whether the chain ends at 0: nobody can foretell it, and the processor would wait for it. Vertex 0 is read then.
+pub fn follow(
+    vertices: &[f64],
+    work: &[u32],
+    places: usize,
+    count: usize,
+    k: usize,
+    p: Vec3,
+) -> usize
+    requires { ⌜ (3 * places ≤ length (now vertices)) × (2 * places ≤ length (now work)) × (count ≤ places) ⌝ }
+{
+    let m = less_one(k);
+    if count <= m {
+        return 0;
+    }
+    if equal(vertex(vertices, m), p) {
+        return k;
+    }
+    wide(work[places + m])
 }

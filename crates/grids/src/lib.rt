@@ -1,4 +1,5 @@
 // Grids over surfaces, streamed into the welder: Soup::quad and Soup::grid of src/tessellate.rs.
+mod ahead;
 mod grid;
 mod guesses;
 
