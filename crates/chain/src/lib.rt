@@ -194,7 +194,7 @@ pub fn follow(
     requires { ⌜ (3 * places ≤ length (now vertices)) × (2 * places ≤ length (now work)) × (count ≤ places) ⌝ }
 {
     let m = less_one(k);
-    if count <= m {
+    if m >= count {
         return 0;
     }
     if equal(vertex(vertices, m), p) {
