@@ -2,3 +2,4 @@
 pub mod Clean
 pub mod Places
 pub mod Chains
+pub mod Following

@@ -5,7 +5,7 @@ ghost use Prim.Native.Nat.{_+_, _-_, _*_, _<_, _≤_, _^_};
 ghost use lib.ListN.{length};
 ghost use Rattle.trimesh.specs.Mesh.{samePoint};
 ghost use Rattle.chain.specs.Points.{Clean, vertexAt, placed};
-ghost use Rattle.chain.specs.Hash.{spreadOf, bucketOf, Chained, linkedIn, Sought, Placing};
+ghost use Rattle.chain.specs.Hash.{spreadOf, bucketOf, Chained, linkedIn, Sought, Placing, headOf, followed};
 use math::Vec3;
 
 // What a look-up finds: the number of a vertex, or none.
@@ -169,6 +169,7 @@ pub fn place_of(
 pub fn head(work: &[u32], places: usize, p: Vec3) -> usize
     requires { ⌜ (0 < places) × (places < 2 ^ 32) × Clean p ⌝ }
     requires { ⌜ places ≤ length (now work) ⌝ }
+    ensures { λ r. ⌜ r ≡ headOf (now (work .entry)) places p ⌝ }
 {
     let bucket = bucket_of(p, places);
     wide(work[bucket])
@@ -181,8 +182,8 @@ fn less_one(k: usize) -> usize
     if 0 < k { k - 1 } else { 0 }
 }
 
-// A step along a chain: k where vertex k − 1 equals p, else what follows k. It is for guesses, so nothing is said of the answer. There is no
-// test whether the chain ends at 0: nobody can foretell it, and the processor would wait for it. Vertex 0 is read then.
+// A step along a chain: k where vertex k − 1 equals p, else what follows k. There is no test whether the chain ends at 0: nobody can
+// foretell it, and the processor would wait for it. Vertex 0 is read then.
 pub fn follow(
     vertices: &[f64],
     work: &[u32],
@@ -192,6 +193,7 @@ pub fn follow(
     p: Vec3,
 ) -> usize
     requires { ⌜ (3 * places ≤ length (now vertices)) × (2 * places ≤ length (now work)) × (count ≤ places) ⌝ }
+    ensures { λ r. ⌜ r ≡ followed (now (vertices .entry)) (now (work .entry)) places count k p ⌝ }
 {
     let m = less_one(k);
     if m >= count {
