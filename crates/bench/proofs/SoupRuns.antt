@@ -15,7 +15,7 @@ use Rattle.soups.specs.Grid.{Soup}
 use Rattle.shape.specs.Drawing.{pick}
 use Rattle.outcome.specs.Solid.{partsFinite}
 use Rattle.outcome.specs.Outcome.{shortWork, tooFewPlaces}
-use Rattle.tessellate.specs.Steps.{Welded}
+use Rattle.draw.specs.Steps.{Welded}
 use Rattle.weld.specs.declared.Welder.{Welder}
 use Rattle.weld.specs.Rep.{Held, Ready, Runs}
 use Rattle.weld.specs.Runs.{runs-none, runs-then, runs-as}

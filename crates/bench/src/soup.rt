@@ -6,7 +6,7 @@ ghost use Prim.Native.Nat.{_+_, _*_, _≤_};
 ghost use lib.ListN.{length};
 ghost use Rattle.weld.specs.Rep.{held, Ready, Runs};
 ghost use Rattle.outcome.specs.Outcome.{shortWork};
-ghost use Rattle.tessellate.specs.Steps.{Welded};
+ghost use Rattle.draw.specs.Steps.{Welded};
 ghost use Rattle.bench.specs.Soups.{triangleAt, soupOf, Welds};
 use math::Vec3;
 use weld::Welder;

@@ -6,7 +6,6 @@ ghost use Rattle.outcome.specs.Outcome.{tessellateOf, shortWork};
 ghost use Rattle.refusal.specs.Number.{numberOf};
 ghost use Rattle.outcome.specs.Gives.{Gives, job};
 
-mod draw;
 
 use outcome::Tessellated;
 use refusal::Refusal;

@@ -9,7 +9,7 @@ use Rattle.refusal.specs.Number.{numberOf}
 use Rattle.outcome.specs.Outcome.{jobRefusal, shortWork}
 use Rattle.outcome.specs.Gives.{job}
 use Rattle.finish.proofs.Ending.{gives-as}
-use Rattle.tessellate.proofs.Choices.{short, drawing, accepted-zero}
+use Rattle.draw.proofs.Choices.{short, drawing, accepted-zero}
 use borrow.Author.Needs.{needs}
 use Rattle.tessellate.proofs.tessellate.Statement.{statement}
 use Rattle.tessellate.proofs.tessellate.Tie as tie

@@ -7,7 +7,7 @@ use native.Mathlib.Omega.{arith}
 use lib.ListN.{length}
 use Rattle.weld.specs.Rep.{held}
 use Rattle.parts.specs.PartsLaws.{parts-one}
-use Rattle.tessellate.proofs.Welding.{work-zero, work-enough, parts-welded}
+use Rattle.draw.proofs.Welding.{work-zero, work-enough, parts-welded}
 use Rattle.bench.specs.Soups.{soupOf}
 use borrow.Author.Needs.{needs}
 use Rattle.bench.proofs.soup.weld_soup.Statement.{statement}

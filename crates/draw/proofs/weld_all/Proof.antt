@@ -1,4 +1,4 @@
--- `tessellate::draw::weld_all` meets its contract. Assumes nothing.
+-- `draw::weld_all` meets its contract. Assumes nothing.
 use mathlib.Core.Path.{_≡_}
 use denote.Ref.{now}
 use Prim.Native.Nat.{_*_, _/_, _≤_}
@@ -6,10 +6,10 @@ use native.Mathlib.Omega.{arith}
 use lib.ListN.{length}
 use Rattle.outcome.specs.Solid.{partsOf}
 use Rattle.weld.specs.Rep.{held}
-use Rattle.tessellate.proofs.Welding.{work-zero, work-enough, bounded, listed, parts-welded}
+use Rattle.draw.proofs.Welding.{work-zero, work-enough, bounded, listed, parts-welded}
 use borrow.Author.Needs.{needs}
-use Rattle.tessellate.proofs.draw.weld_all.Statement.{statement}
-use Rattle.tessellate.proofs.draw.weld_all.Tie as tie
+use Rattle.draw.proofs.weld_all.Statement.{statement}
+use Rattle.draw.proofs.weld_all.Tie as tie
 
 clear-numbers-requires : tie.Need-clear-numbers-requires
 clear-numbers-requires c κs = search needs

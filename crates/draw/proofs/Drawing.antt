@@ -17,10 +17,10 @@ use Rattle.mesh.specs.State.{state, meshOf, stored}
 use Rattle.outcome.specs.Solid.{partsOf}
 use Rattle.outcome.specs.Outcome.{Job, Outcome, jobParts, weldedMesh, jobRefusal, badSoup, tooFewPlaces, refusedAs, tessellateOf}
 use Rattle.finish.specs.Ends.{isRotPoly, turned, placedAs, Whole}
-use Rattle.tessellate.specs.Steps.{countsOf, Drawable, Welded, Drawn}
+use Rattle.draw.specs.Steps.{countsOf, Drawable, Welded, Drawn}
 use Rattle.finish.proofs.Ending.{refused-lengths}
 use Rattle.finish.proofs.Lying.{mesh-is, stored-whole, fromParts-there}
-use Rattle.tessellate.proofs.Choices.{soup, full, placed, welded-is, places-same, soup-test}
+use Rattle.draw.proofs.Choices.{soup, full, placed, welded-is, places-same, soup-test}
 
 -- refusals 3 and 4 do not apply
 pub drawable : (j : Job) → jobRefusal j ≡ Accepted → Drawable (j .shape) (j .list) (j .options)

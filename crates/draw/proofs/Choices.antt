@@ -21,7 +21,7 @@ use Rattle.outcome.specs.Solid.{partsFinite}
 use Rattle.outcome.specs.Outcome.{Job, jobParts, weldedMesh, finalMesh, shortWork, jobRefusal, badSoup, tooFewPlaces, badVertex, isAccepted, orElse, refusalOf}
 use Rattle.outcome.specs.Outcome.{Outcome, refusedAs, acceptedAs, tessellateOf}
 use Rattle.finish.specs.Ends.{isRotPoly, turned, movedAs, placedAs}
-use Rattle.tessellate.specs.Steps.{Drawn}
+use Rattle.draw.specs.Steps.{Drawn}
 use Rattle.finish.proofs.Turning.{solid-turned, turned-vertices, turned-triangles}
 
 -- the first refusal, by the tests

@@ -1,4 +1,4 @@
--- Laws that several proofs of this crate use.
+-- Laws that the proofs of `draw` use.
 pub mod Choices
 pub mod Drawing
 pub mod Welding

@@ -28,7 +28,7 @@ use Rattle.slices.specs.Every.{wholePlaces}
 use Rattle.mesh.specs.State.{state, stored}
 use Rattle.outcome.specs.Solid.{partsFinite}
 use Rattle.outcome.specs.Outcome.{tooFewPlaces, shortWork}
-use Rattle.tessellate.specs.Steps.{countsOf, Drawable, Welded}
+use Rattle.draw.specs.Steps.{countsOf, Drawable, Welded}
 use Rattle.finish.proofs.Lying.{lies}
 
 -- ---- the work slice before the welding

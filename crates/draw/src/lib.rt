@@ -1,11 +1,11 @@
-// A drawing that refusals 6, 3, 4, 1 and 2 let pass.
+// The drawing of a solid: its parts welded, then refusals 5 and 7, then the end of the call.
 ghost use mathlib.Core.Path.{_≡_};
 ghost use mathlib.Core.Bool.{false};
 ghost use lib.ListN.{length};
 ghost use Rattle.outcome.specs.Solid.{partsOf};
 ghost use Rattle.outcome.specs.Outcome.{tessellateOf, shortWork};
 ghost use Rattle.outcome.specs.Gives.{Gives, job};
-ghost use Rattle.tessellate.specs.Steps.{Drawable, Welded, Drawn};
+ghost use Rattle.draw.specs.Steps.{Drawable, Welded, Drawn};
 use mesh::TriMesh;
 use outcome::Tessellated;
 use refusal::Refusal;

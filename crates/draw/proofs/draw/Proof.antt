@@ -1,12 +1,12 @@
--- `tessellate::draw::draw` meets its contract. Assumes nothing.
+-- `draw::draw` meets its contract. Assumes nothing.
 use mathlib.Core.Path.{_∙_}
 use denote.Ref.{now}
 use Rattle.outcome.specs.Gives.{job}
 use Rattle.finish.proofs.Ending.{gives-as}
-use Rattle.tessellate.proofs.Drawing.{drawable, welded-parts, not-finite, no-room, whole, done}
+use Rattle.draw.proofs.Drawing.{drawable, welded-parts, not-finite, no-room, whole, done}
 use borrow.Author.Needs.{needs}
-use Rattle.tessellate.proofs.draw.draw.Statement.{statement}
-use Rattle.tessellate.proofs.draw.draw.Tie as tie
+use Rattle.draw.proofs.draw.Statement.{statement}
+use Rattle.draw.proofs.draw.Tie as tie
 
 shape-cs-requires : tie.Need-shape-cs-requires
 shape-cs-requires c κs = search needs

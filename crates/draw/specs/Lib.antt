@@ -1,0 +1,2 @@
+-- What the contracts of `draw` cite.
+pub mod Steps

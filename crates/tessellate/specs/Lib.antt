@@ -1,2 +1,0 @@
--- What the contracts of `tessellate` cite beside the definitions of `outcome`.
-pub mod Steps
