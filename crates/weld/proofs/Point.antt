@@ -2,8 +2,8 @@
 use mathlib.Core.Path.{_≡_, refl, sym, ap, _∙_, subst}
 use mathlib.Core.Bool.{Bool, true, false}
 use mathlib.Core.List.{List, [], _∷_, _++_, map, append-assoc}
-use mathlib.Core.Logic.{_⊎_, inl, inr, ⊎-elim}
-use Prim.Native.Nat.{ℕ, zero, suc, _+_, _-_, _*_, _≤_, _<_, _^_}
+use mathlib.Core.Logic.{inl, inr}
+use Prim.Native.Nat.{ℕ, _+_, _-_, _*_, _≤_, _<_, _^_}
 use native.Mathlib.Omega.{arith}
 use lib.ListN.{length, getD, take, length-set, length-append, length-map}
 use lib.Seq.{getD-append-add}
@@ -15,11 +15,10 @@ use Rattle.trimesh.specs.Slices.{flatV}
 use Rattle.trimesh.specs.WeldLaws.{sight-at, sight-none, with-seen, with-new, with-longer, flatV-append}
 use Rattle.chain.specs.declared.Found.the-variants.{Missing}
 use Rattle.weld.specs.declared.Welder.{Welder}
-use Rattle.weld.specs.declared.Welded.{Welded}
 use Rattle.chain.specs.Points.{Clean, vertexAt, placed}
-use Rattle.chain.specs.Hash.{bucketOf, linkedIn, FirstAt, Sought, Placing}
+use Rattle.chain.specs.Hash.{bucketOf, linkedIn, FirstAt, Sought}
 use Rattle.weld.specs.Rep.{Held, held, Linked, Holds, Over, Rep}
-use Rattle.weld.specs.Steps.{shut, counted, Numbered, withVertex, PointRuns}
+use Rattle.weld.specs.Steps.{shut, withVertex, PointRuns}
 use Rattle.weld.proofs.Places.{take-three, take-vertex, flatV-at, places-limit, places-long}
 use Rattle.chain.proofs.Clean.{clean-self}
 use Rattle.chain.proofs.Chains.{not-both, first-stays, first-new, chain-more}
@@ -82,11 +81,6 @@ grown D S p e =
 
 pub three-more : (n : ℕ) → 3 * (n + 1) ≡ 3 * n + 3
 three-more n = omega arith
-
-le-or-lt : (a b : ℕ) → (a ≤ b) ⊎ (b < a)
-le-or-lt zero b = inl (omega arith)
-le-or-lt (suc a) zero = inr (omega arith)
-le-or-lt (suc a) (suc b) = ⊎-elim (λ h. inl (omega arith)) (λ h. inr (omega arith)) (le-or-lt a b)
 
 -- ---- the cases of `weld_point`
 module _ (w : Welder) (vs : List Float) (ws : List ℕ) (L : Linked w vs ws) (p : Vec3) where
@@ -158,7 +152,7 @@ module _ (w : Welder) (vs : List Float) (ws : List ℕ) (L : Linked w vs ws) (p 
       }
 
   abbrev next : Welder
-  next = counted w
+  next = record { base = w .base; count = w .count + 1; places = w .places; faces = w .faces; finite = w .finite; room = w .room }
 
   abbrev vs₁ : List Float
   vs₁ = placed vs (w .count) p
@@ -197,21 +191,6 @@ module _ (w : Welder) (vs : List Float) (ws : List ℕ) (L : Linked w vs ws) (p 
         here = λ q. first-new vs (w .base) (w .count) p (L .chained .based) (omega (arith, L .chained .room)) (clean-self p cp) F;
         stays = λ q x n G. first-stays vs (w .base) (w .count) p x n G;
       }
-
-  -- by the answer of `place_of`
-  pub point-placed : Clean p → w .room ≡ true → (m : ℕ) (vs′ : List Float) (ws′ : List ℕ) (r : Welded) → Placing (w .places) (w .base) (w .count) p vs ws m vs′ ws′ → Numbered w m r
-      → PointRuns p w vs ws r vs′ ws′
-  point-placed cp e m vs′ ws′ r P N =
-      ⊎-elim (λ k. ⊎-elim (λ l. new (omega arith)) full (le-or-lt m (w .count))) found (le-or-lt (w .count) m)
-    where
-      found : m < w .count → PointRuns p w vs ws r vs′ ws′
-      found l = let f = P .found l in rw (N .found l, f .1, f .2) (point-at m e (f .0))
-
-      new : m ≡ w .count → PointRuns p w vs ws r vs′ ws′
-      new l = let n = P .new l in rw (N .new l, n .3, n .4, l) (point-new cp (bucketOf (w .places) p) refl (n .2) e (n .0) (n .1))
-
-      full : w .count < m → PointRuns p w vs ws r vs′ ws′
-      full l = let f = P .full l in rw (N .full l, f .2, f .3) (point-full e (f .0) (f .1))
 
 -- a point that was seen, or any after there was no room
 pub point-known : (w : Welder) (vs : List Float) (ws : List ℕ) (p : Vec3) (m : ℕ) → Linked w vs ws → m < 2 ^ 32 → (w .room ≡ true → FirstAt vs (w .base) (w .count) p m)

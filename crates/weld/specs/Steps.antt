@@ -21,16 +21,6 @@ unfinite w = record { base = w .base; count = w .count; places = w .places; face
 abbrev pub shut : Welder → Welder
 shut w = record { base = w .base; count = w .count; places = w .places; faces = w .faces; finite = w .finite; room = false }
 
--- the state after a new vertex
-abbrev pub counted : Welder → Welder
-counted w = record { base = w .base; count = w .count + 1; places = w .places; faces = w .faces; finite = w .finite; room = w .room }
-
--- what an answer m of `place_of` stands for
-pub record Numbered (w : Welder) (m : ℕ) (r : Welded) : Type 0 where
-  pub found : m < w .count → r ≡ record { number = m; st = w }
-  pub new : m ≡ w .count → r ≡ record { number = m; st = counted w }
-  pub full : w .count < m → r ≡ record { number = 0; st = shut w }
-
 -- the mesh after p was looked up
 abbrev pub withVertex : Mesh → Vec3 → Mesh
 withVertex S p = record { vertices = withPoint (S .vertices) p; triangles = S .triangles }

@@ -2,7 +2,7 @@
 ghost use Prim.Native.Nat.{_≤_, _<_, _^_};
 ghost use Rattle.chain.specs.Points.{Clean};
 ghost use Rattle.weld.specs.Rep.{held, placesOf, Linked, Ready};
-ghost use Rattle.weld.specs.Steps.{Numbered, PointRuns, TriangleRuns, PointsRun};
+ghost use Rattle.weld.specs.Steps.{PointRuns, TriangleRuns, PointsRun};
 use crate::Welded;
 use crate::Welder;
 use crate::states;
@@ -33,8 +33,7 @@ pub fn weld_points(
     add_triangle(triangles, st, u.number, v.number, t.number)
 }
 
-// Gives a point its number, a guess at which is tried before the look-up. It calls `place_of` and not `look_up`: a function with one
-// call is copied into its caller, which then is too large to be copied into its own.
+// Gives a point its number, a guess at which is tried before the look-up.
 pub fn weld_point(
     vertices: &mut [f64],
     work: &mut [u32],
@@ -55,14 +54,7 @@ pub fn weld_point(
             st: w,
         };
     }
-    if w.places == 0 {
-        return Welded {
-            number: 0,
-            st: states::full(w),
-        };
-    }
-    let number = chain::place_of(vertices, work, w.places, w.base, w.count, p);
-    numbered(w, number)
+    look_up(vertices, work, w, p)
 }
 
 // Gives a point its number: that of the first equal vertex of this part, or the next one, with which it is written.
@@ -70,26 +62,20 @@ pub fn look_up(vertices: &mut [f64], work: &mut [u32], w: Welder, p: Vec3) -> We
     requires { ⌜ Linked w (now vertices) (now work) × Clean p ⌝ }
     ensures { λ r. ⌜ PointRuns p w (now (vertices .entry)) (now (work .entry)) r (now (vertices .exit)) (now (work .exit)) ⌝ }
 {
+    let base = w.base;
+    let count = w.count;
+    let places = w.places;
     let room = w.room;
     if !room {
         return Welded { number: 0, st: w };
     }
-    if w.places == 0 {
+    if places == 0 {
         return Welded {
             number: 0,
             st: states::full(w),
         };
     }
-    let number = chain::place_of(vertices, work, w.places, w.base, w.count, p);
-    numbered(w, number)
-}
-
-// What an answer of `place_of` stands for: a vertex that was there, a new one, or that there is no place.
-fn numbered(w: Welder, number: usize) -> Welded
-    requires { ⌜ w .count < 2 ^ 32 ⌝ }
-    ensures { λ r. ⌜ Numbered w number r ⌝ }
-{
-    let count = w.count;
+    let number = chain::place_of(vertices, work, places, base, count, p);
     if number < count {
         return Welded { number, st: w };
     }
@@ -97,12 +83,12 @@ fn numbered(w: Welder, number: usize) -> Welded
         return Welded {
             number,
             st: Welder {
-                base: w.base,
+                base,
                 count: count + 1,
-                places: w.places,
+                places,
                 faces: w.faces,
                 finite: w.finite,
-                room: w.room,
+                room,
             },
         };
     }

@@ -73,8 +73,10 @@ fn loaded(rng: &mut Rng, more: (usize, usize)) -> Case {
     };
     (case.vertex_count, case.triangle_count) = (vertices as u32, case.triangles.len() as u32 / 3);
     let all = (vertices + more.0, case.triangle_count as usize + more.1);
-    (case.vertex_floats, case.triangle_numbers) =
-        (places::length(rng, all.0) as u32, places::length(rng, all.1) as u32);
+    (case.vertex_floats, case.triangle_numbers) = (
+        places::length(rng, all.0).min(places::MOST_VERTEX_FLOATS) as u32,
+        places::length(rng, all.1).min(places::MOST_TRIANGLE_NUMBERS) as u32,
+    );
     if !rng.one_in(8) {
         // Room for the mesh itself at least.
         case.vertex_floats = case.vertex_floats.max(3 * case.vertex_count);
