@@ -5,8 +5,6 @@ ghost use lib.ListN.{length};
 ghost use Rattle.outcome.specs.Outcome.{tessellateOf, shortWork};
 ghost use Rattle.refusal.specs.Number.{numberOf};
 ghost use Rattle.outcome.specs.Gives.{Gives, job};
-
-
 use outcome::Tessellated;
 use refusal::Refusal;
 use shape::CoordSystem;
