@@ -43,11 +43,11 @@ pub record Chained (vs : List Float) (ws : List ℕ) (places base count : ℕ) :
 abbrev pub linkedIn : List ℕ → ℕ → ℕ → ℕ → List ℕ
 linkedIn ws places n b = set (set ws (places + n) (getD ws b 0)) b (n + 1)
 
--- the head of a point's chain: one more than the number of the latest vertex of its bucket, or 0
+-- no part of the Rust, for guesses: the head of a point's chain, which is one more than the number of the latest vertex of its bucket, or 0
 abbrev pub headOf : List ℕ → ℕ → Vec3 → ℕ
 headOf ws places p = getD ws (bucketOf places p) 0
 
--- a step along a chain at k, which is one more than the number of a vertex: k where that vertex equals p, else what follows it; 0 where there is no such vertex. Vertex 0 is taken for k = 0.
+-- no part of the Rust, for guesses: a step along a chain at k, which is one more than the number of a vertex: k where that vertex equals p, else what follows it; 0 where there is no such vertex. Vertex 0 is taken for k = 0.
 unfoldable pub followed : List Float → List ℕ → ℕ → ℕ → ℕ → Vec3 → ℕ
 followed vs ws places count k p = cond (ltb (k - 1) count) (cond (samePoint (vertexAt vs (k - 1)) p) k (getD ws (places + (k - 1)) 0)) 0
 

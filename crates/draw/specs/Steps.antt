@@ -1,4 +1,4 @@
--- What the contracts of the steps of `tessellate` cite: what was drawn, and what was welded. Definitions only.
+-- What the contracts of `draw` cite: what was drawn, and what was welded. Definitions only.
 use mathlib.Core.Path.{_≡_}
 use mathlib.Core.Bool.{true, false}
 use mathlib.Core.List.{List}

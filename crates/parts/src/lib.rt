@@ -1,4 +1,4 @@
-// Solids of several parts, each welded among its own vertices: multi-box and wire of src/primitives.
+// Solids of several parts, each welded among its own vertices: the cases MultiBox and Wire of tessellate in src/tessellate.rs.
 mod multi_box;
 mod wire;
 
