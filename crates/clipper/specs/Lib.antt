@@ -1,3 +1,2 @@
 pub mod Triangulate
 pub mod Slices
-pub mod Outcome

@@ -1,11 +1,8 @@
 // The ear clipper over lent memory (src/tessellate.rs, triangulate_polygon).
-mod call;
 mod lists;
 mod passes;
 
-pub use call::clip_outline;
 pub use passes::triangulate_polygon;
-use refusal::Refusal;
 
 // The corners that remain: the first n numbers of at.
 pub struct Remaining {
@@ -22,13 +19,6 @@ pub struct Work {
 
 // How many triangles were given, and how many corners were removed singly.
 pub struct Cut {
-    pub triangles: usize,
-    pub removed: usize,
-}
-
-// What clipping an outline by itself answers.
-pub struct Clipped {
-    pub refusal: Refusal,
     pub triangles: usize,
     pub removed: usize,
 }

@@ -15,7 +15,7 @@ fn clean(v: &[f64; 10]) {
 
 fn clip(v: &[f64]) {
     let mut t = [0u32; 6];
-    let c = clipper::clip_outline(v, &mut t);
+    let c = clipping::clip_outline(v, &mut t);
     let k = c.triangles;
     text::bytes(b"corners");
     text::corners(v, v.len() / 2);

@@ -33,7 +33,7 @@ pub fn fill_floats(out: &mut [f64]) {
 
 pub fn clip(list: &[f64], triangles: &mut [u32], buf: &mut [u8]) -> bool {
     fill_words(triangles);
-    let c = clipper::clip_outline(list, triangles);
+    let c = clipping::clip_outline(list, triangles);
     let why = c.refusal;
     if !output::three_words(
         refusal::number(why),

@@ -12,12 +12,6 @@ add-f c = omega arith
 float-from-bits-f : tie.Need-float-from-bits-f
 float-from-bits-f c = not-nan-of-le (c .args .c + 1023 * 2 ^ 52) (omega arith)
 
-constant-requires : tie.Need-constant-requires
-constant-requires c κs = search needs
-
-slope-requires : tie.Need-slope-requires
-slope-requires c κs = search needs
-
 returns : tie.Need-returns
 returns c = search needs
 
@@ -27,6 +21,4 @@ guess-spec =
     (tie.spec
     add-f
     float-from-bits-f
-    constant-requires
-    slope-requires
     returns)

@@ -1,4 +1,4 @@
--- `clipper::call::clip_outline` meets its contract. Assumes nothing.
+-- `clipping::clip_outline` meets its contract. Assumes nothing.
 use denote.Ref.{now}
 use mathlib.Core.Path.{_≡_, refl, sym, ap, _∙_}
 use native.Mathlib.Omega.{arith}
@@ -8,10 +8,10 @@ use lib.Ieee.Scale.{finite}
 use borrow.Author.Tests.{not-true, not-false}
 use Rattle.slices.proofs.Clearing.{cleared-all}
 use Rattle.slices.proofs.Next.{every-all}
-use Rattle.clipper.proofs.Outcomes.{outcome-refused, outcome-long, outcome-odd, outcome-infinite, outcome-room, outcome-done}
+use Rattle.clipping.proofs.Outcomes.{outcome-refused, outcome-long, outcome-odd, outcome-infinite, outcome-room, outcome-done}
 use borrow.Author.Needs.{needs}
-use Rattle.clipper.proofs.call.clip_outline.Statement.{statement}
-use Rattle.clipper.proofs.call.clip_outline.Tie as tie
+use Rattle.clipping.proofs.clip_outline.Statement.{statement}
+use Rattle.clipping.proofs.clip_outline.Tie as tie
 
 clear-numbers-requires : tie.Need-clear-numbers-requires
 clear-numbers-requires c κs = search needs

@@ -1,12 +1,17 @@
-// An outline clipped by itself: the refusals, and what the lent triangles hold at the end.
+// An outline clipped by itself: the refusals, and what the lent triangles hold at the end (document 01, "Who can be told no").
 ghost use mathlib.Core.Path.{_≡_};
 ghost use mathlib.Core.List.{_++_};
 ghost use Prim.Native.Nat.{ℕ, _≤_};
 ghost use lib.ListN.{length, take, drop, replicate};
-ghost use Rattle.clipper.specs.Outcome.{refusedBy, clipOutline, outcomeOf};
-use crate::Clipped;
-use crate::passes;
+ghost use Rattle.clipping.specs.Outcome.{refusedBy, clipOutline, outcomeOf};
 use refusal::Refusal;
+
+// What clipping an outline by itself answers.
+pub struct Clipped {
+    pub refusal: Refusal,
+    pub triangles: usize,
+    pub removed: usize,
+}
 
 // The first n numbers of from, at the start of out.
 fn copy(out: &mut [u32], from: &[u32], n: usize)
@@ -46,7 +51,7 @@ pub fn clip_outline(list: &[f64], triangles: &mut [u32]) -> Clipped
         return refused(Refusal::NotFinite);
     }
     let mut work = [0u32; 1536];
-    let cut = passes::triangulate_polygon(list, &mut work);
+    let cut = clipper::triangulate_polygon(list, &mut work);
     if triangles.len() / 3 < cut.triangles {
         return refused(Refusal::NoRoom);
     }

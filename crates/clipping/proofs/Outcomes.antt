@@ -14,12 +14,12 @@ use borrow.Author.Tests.{lt-ltb, le-ltb, eq-eqb, ne-eqb}
 use Rattle.refusal.specs.Number.{numberOf}
 use Rattle.refusal.specs.declared.Refusal.the-variants.{Accepted, BadList, NotFinite, NoRoom}
 use Rattle.slices.specs.Every.{every}
 use Rattle.clipper.specs.Triangulate.{State, triangulatePolygon}
 use Rattle.clipper.specs.Slices.{Gives}
-use Rattle.clipper.specs.Outcome.{Outcome, refusedBy, accepted, pickOutcome, clipOutline, outcomeOf}
+use Rattle.clipping.specs.Outcome.{Outcome, refusedBy, accepted, pickOutcome, clipOutline, outcomeOf}
 use Rattle.clipper.specs.declared.Cut.{Cut}
-use Rattle.clipper.specs.declared.Clipped.{Clipped}
+use Rattle.clipping.specs.declared.Clipped.{Clipped}
 use Rattle.clipper.proofs.Writing.{drop-more}
 
 -- ---- copies
 

@@ -1,12 +1,12 @@
--- `clipper::call::copy` meets its contract. Assumes nothing.
+-- `clipping::copy` meets its contract. Assumes nothing.
 use denote.Ref.{now}
 use mathlib.Core.Path.{_≡_, refl, sym, ap, _∙_}
 use native.Mathlib.Omega.{arith}
 use Prim.Native.Nat.{_≤_, _<_, _-_}
 use lib.ListN.{length, take, drop, length-set}
-use Rattle.clipper.proofs.Outcomes.{copy-front, copy-rest, copied}
-use Rattle.clipper.proofs.call.copy.Statement.{statement}
-use Rattle.clipper.proofs.call.copy.Tie as tie
+use Rattle.clipping.proofs.Outcomes.{copy-front, copy-rest, copied}
+use Rattle.clipping.proofs.copy.Statement.{statement}
+use Rattle.clipping.proofs.copy.Tie as tie
 
 abbrev Inv-loop : tie.InvT-loop
 Inv-loop out₀ from n i₀ out i = (i ≤ n) × (length out ≡ length out₀) × (take i out ≡ take i from) × (drop i out ≡ drop i out₀)

@@ -11,8 +11,8 @@ use Rattle.refusal.specs.Number.{numberOf}
 use Rattle.refusal.specs.declared.Refusal.{Refusal}
 use Rattle.refusal.specs.declared.Refusal.the-variants.{Accepted, BadList, NotFinite, NoRoom}
 use Rattle.slices.specs.Every.{every}
-use Rattle.clipper.specs.declared.Clipped.{Clipped}
+use Rattle.clipping.specs.declared.Clipped.{Clipped}
 use Rattle.clipper.specs.Triangulate.{State, triangulatePolygon}
 
 -- the refusal's number, 0 for none; the triangles given; the corners removed singly; the whole triangle slice
 pub record Outcome : Type 0 where

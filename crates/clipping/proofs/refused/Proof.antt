@@ -1,0 +1,12 @@
+-- `clipping::refused` meets its contract. Assumes nothing.
+use mathlib.Core.Path.{refl}
+use Rattle.clipping.specs.Outcome.{refusedBy}
+use Rattle.clipping.proofs.refused.Statement.{statement}
+use Rattle.clipping.proofs.refused.Tie as tie
+
+returns : tie.Need-returns
+unfolding refusedBy
+returns c = λ m. refl
+
+pub refused-spec : {M : Type 1} → statement M
+refused-spec = tie.close (tie.spec returns)

@@ -1,0 +1,2 @@
+-- What the contract of `clipping` cites.
+pub mod Outcome
