@@ -18,7 +18,7 @@ use Rattle.outcome.specs.Solid.{partsOf}
 use Rattle.outcome.specs.Outcome.{Job, Outcome, jobParts, weldedMesh, jobRefusal, badSoup, tooFewPlaces, refusedAs, tessellateOf}
 use Rattle.finish.specs.Ends.{isRotPoly, turned, placedAs, Whole}
 use Rattle.draw.specs.Steps.{countsOf, Drawable, Welded, Drawn}
-use Rattle.finish.proofs.Ending.{refused-lengths}
+use Rattle.answers.proofs.Ending.{refused-lengths}
 use Rattle.finish.proofs.Lying.{mesh-is, stored-whole, fromParts-there}
 use Rattle.draw.proofs.Choices.{soup, full, placed, welded-is, places-same, soup-test}
 

@@ -69,10 +69,10 @@ pub fn draw(
     let finite = w.finite;
     let room = w.room;
     if !finite {
-        return finish::refuse(Refusal::PointNotFinite, vertices, triangles, work);
+        return answers::refuse(Refusal::PointNotFinite, vertices, triangles, work);
     }
     if !room {
-        return finish::refuse(Refusal::NoRoom, vertices, triangles, work);
+        return answers::refuse(Refusal::NoRoom, vertices, triangles, work);
     }
     let counts = TriMesh {
         vertices: w.count,

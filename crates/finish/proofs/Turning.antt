@@ -58,9 +58,13 @@ flips-there : (b : Bool) (m : Mesh) → AllThere m → AllThere (cond b (flip m)
 flips-there true m h = flip-all-there m h
 flips-there false m h = h
 
-pub outward-there : (m : Mesh) → AllThere m → AllThere (outward m)
+outward-there : (m : Mesh) → AllThere m → AllThere (outward m)
 unfolding outward
 outward-there m h = flips-there (lt (signedVolume m) (ofBits binary64 0)) m h
+
+pub turned-there : (b : Bool) (m : Mesh) → AllThere m → AllThere (turned b m)
+turned-there true m h = outward-there m h
+turned-there false m h = h
 
 outward-flips : (m : Mesh) → lt (signedVolume m) (ofBits binary64 0) ≡ true → outward m ≡ flip m
 unfolding outward

@@ -1,28 +1,23 @@
 -- What the contracts of `finish` cite: the mesh as it lies in the slices after each step. Definitions only.
-use mathlib.Core.Path.{_≡_}
 use mathlib.Core.Bool.{Bool, true, false, cond}
 use mathlib.Core.List.{List}
-use Prim.Native.Nat.{ℕ, _*_}
-use lib.ListN.{length, take}
+use Prim.Native.Nat.{ℕ}
+use lib.ListN.{take}
 use lib.Dec.{ltb}
-use lib.Ieee.{Float, binary64, ofBits}
 use Rattle.matrix.specs.declared.Mat4.{Mat4}
 use Rattle.math.specs.Vec.{vFinite}
 use Rattle.transform.specs.declared.TransformOp.{TransformOp}
 use Rattle.transform.specs.Ops.{folded}
-use Rattle.refusal.specs.declared.Refusal.the-variants.{Accepted, PointNotFinite}
-use Rattle.slices.specs.Cleared.{clearedFrom}
+use Rattle.refusal.specs.declared.Refusal.the-variants.{PointNotFinite}
 use Rattle.trimesh.specs.Mesh.{Mesh}
 use Rattle.trimesh.specs.Edits.{transform}
 use Rattle.trimesh.specs.Closed.{AllThere}
 use Rattle.shape.specs.declared.Shape.{Shape}
 use Rattle.shape.specs.declared.Shape.the-variants.{Box, MultiBox, Sphere, SphericalShell, Cylinder, CylindricalShell, Polygon, LinPoly, RotPoly, Wire}
-use Rattle.mesh.specs.declared.TriMesh.{TriMesh}
 use Rattle.slices.specs.Every.{every}
 use Rattle.mesh.specs.State.{State, meshOf, Sound}
 use Rattle.outcome.specs.Solid.{outward}
 use Rattle.outcome.specs.Outcome.{Outcome, acceptedAs, refusedAs}
-use Rattle.outcome.specs.declared.Tessellated.{Tessellated}
 
 -- whether the shape is a rotated outline
 unfoldable pub isRotPoly : Shape → Bool
@@ -41,18 +36,6 @@ isRotPoly (Wire radius) = false
 pub record Whole (s : State) : Type 0 where
   pub sound : Sound s
   pub there : AllThere (meshOf s)
-
--- the first n vertex places and k triangle places stay, zeros stand after them and in the work slice
-pub record Keeps (n k : ℕ) (vs : List Float) (ts ws : List ℕ) (vs' : List Float) (ts' ws' : List ℕ) : Type 0 where
-  pub vertices : vs' ≡ clearedFrom (ofBits binary64 0) (3 * n) vs
-  pub triangles : ts' ≡ clearedFrom 0 (3 * k) ts
-  pub work : ws' ≡ clearedFrom 0 0 ws
-
--- the answer of an accepted call: the counts, and the counted places stay
-pub record Closes (counts : TriMesh) (vs : List Float) (ts ws : List ℕ) (r : Tessellated) (vs' : List Float) (ts' ws' : List ℕ) : Type 0 where
-  pub refusal : r .refusal ≡ Accepted
-  pub mesh : r .mesh ≡ counts
-  pub keeps : Keeps (counts .vertices) (counts .triangles) vs ts ws vs' ts' ws'
 
 -- a mesh under a matrix: document 01's refusal 5 over the transformed vertices, or accepted
 unfoldable pub movedAs : Mat4 → Mesh → ℕ → ℕ → ℕ → Outcome

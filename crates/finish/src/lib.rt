@@ -1,8 +1,6 @@
 // The end of the call `tessellate`: the welded mesh turned outward, under the operations, tested, and zeros in the unused places.
-mod answers;
 mod place;
 mod turn;
 
-pub use answers::refuse;
 pub use place::complete;
 pub use turn::is_rot_poly;

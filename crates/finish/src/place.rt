@@ -5,7 +5,6 @@ ghost use Rattle.trimesh.specs.Edits.{transform};
 ghost use Rattle.mesh.specs.State.{state, meshOf, stored, Sound};
 ghost use Rattle.outcome.specs.Gives.{Gives};
 ghost use Rattle.finish.specs.Ends.{movedAs, placedAs, turned, Whole};
-use crate::answers;
 use crate::turn;
 use matrix::Mat4;
 use mesh::TriMesh;
@@ -95,9 +94,6 @@ pub fn complete(
         (length (now (vertices .entry))) (length (now (triangles .entry))) (length (now (work .entry))))
         r (now (vertices .exit)) (now (triangles .exit)) (now (work .exit)) ⌝ }
 {
-    if rotated {
-        turn::turn_outward(counts, vertices, triangles);
-        return placed(counts, vertices, triangles, work, ops, op_count, degrees);
-    }
+    turn::turn_rotated(rotated, counts, vertices, triangles);
     placed(counts, vertices, triangles, work, ops, op_count, degrees)
 }

@@ -3,7 +3,7 @@ ghost use mathlib.Core.Path.{_≡_};
 ghost use lib.ListN.{length};
 ghost use Rattle.mesh.specs.State.{state, meshOf, stored, Sound};
 ghost use Rattle.outcome.specs.Solid.{outward};
-ghost use Rattle.finish.specs.Ends.{isRotPoly};
+ghost use Rattle.finish.specs.Ends.{isRotPoly, turned};
 use mesh::TriMesh;
 use shape::Shape;
 
@@ -26,7 +26,7 @@ pub fn is_rot_poly(shape: Shape) -> bool
 }
 
 // Turns every triangle where the signed volume is below 0.
-pub fn turn_outward(counts: TriMesh, vertices: &[f64], triangles: &mut [u32])
+fn turn_outward(counts: TriMesh, vertices: &[f64], triangles: &mut [u32])
     requires { ⌜ Sound (state counts (now vertices) (now triangles)) ⌝ }
     ensures { λ _. ⌜ state counts (now (vertices .entry)) (now (triangles .exit))
         ≡ stored (outward (meshOf (state counts (now (vertices .entry)) (now (triangles .entry))))) (state counts (now (vertices .entry)) (now (triangles .entry))) ⌝ }
@@ -35,6 +35,18 @@ pub fn turn_outward(counts: TriMesh, vertices: &[f64], triangles: &mut [u32])
     let volume = measure::volume_sum(vertices, triangles, k) / 6.0;
     if volume < 0.0 {
         moves::turn_all(triangles, k);
+        return;
+    }
+}
+
+// The same for a rotated outline; other meshes stay.
+pub fn turn_rotated(rotated: bool, counts: TriMesh, vertices: &[f64], triangles: &mut [u32])
+    requires { ⌜ Sound (state counts (now vertices) (now triangles)) ⌝ }
+    ensures { λ _. ⌜ state counts (now (vertices .entry)) (now (triangles .exit))
+        ≡ stored (turned rotated (meshOf (state counts (now (vertices .entry)) (now (triangles .entry))))) (state counts (now (vertices .entry)) (now (triangles .entry))) ⌝ }
+{
+    if rotated {
+        turn_outward(counts, vertices, triangles);
         return;
     }
 }

@@ -54,10 +54,10 @@ pub fn tessellate(
     );
     let number = refusal::number(refusal);
     if short {
-        return finish::refuse(Refusal::ShortWork, vertices, triangles, work);
+        return answers::refuse(Refusal::ShortWork, vertices, triangles, work);
     }
     if 0 < number {
-        return finish::refuse(refusal, vertices, triangles, work);
+        return answers::refuse(refusal, vertices, triangles, work);
     }
     draw::draw(
         shape,

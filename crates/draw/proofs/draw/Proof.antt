@@ -2,7 +2,7 @@
 use mathlib.Core.Path.{_∙_}
 use denote.Ref.{now}
 use Rattle.outcome.specs.Gives.{job}
-use Rattle.finish.proofs.Ending.{gives-as}
+use Rattle.answers.proofs.Ending.{gives-as}
 use Rattle.draw.proofs.Drawing.{drawable, welded-parts, not-finite, no-room, whole, done}
 use borrow.Author.Needs.{needs}
 use Rattle.draw.proofs.draw.Statement.{statement}

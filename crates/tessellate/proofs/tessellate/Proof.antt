@@ -8,7 +8,7 @@ use mathlib.Core.Bool.{true, false}
 use Rattle.refusal.specs.Number.{numberOf}
 use Rattle.outcome.specs.Outcome.{jobRefusal, shortWork}
 use Rattle.outcome.specs.Gives.{job}
-use Rattle.finish.proofs.Ending.{gives-as}
+use Rattle.answers.proofs.Ending.{gives-as}
 use Rattle.draw.proofs.Choices.{short, drawing, accepted-zero}
 use borrow.Author.Needs.{needs}
 use Rattle.tessellate.proofs.tessellate.Statement.{statement}

@@ -6,7 +6,7 @@ use Rattle.outcome.specs.Outcome.{Outcome}
 use Rattle.matrix.specs.declared.Mat4.{Mat4}
 use Rattle.mesh.specs.State.{state, meshOf}
 use Rattle.finish.specs.Ends.{movedAs}
-use Rattle.finish.proofs.Ending.{gives-as, closes-gives}
+use Rattle.answers.proofs.Ending.{gives-as, closes-gives}
 use Rattle.finish.proofs.Lying.{stored-self}
 use Rattle.finish.proofs.Moving.{placed-moves, placed-none}
 use borrow.Author.Needs.{needs}

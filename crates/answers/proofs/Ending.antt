@@ -16,7 +16,7 @@ use Rattle.mesh.specs.State.{State, state, stored}
 use Rattle.outcome.specs.Outcome.{Outcome, refusedAs, acceptedAs}
 use Rattle.outcome.specs.declared.Tessellated.{Tessellated}
 use Rattle.outcome.specs.Gives.{Gives}
-use Rattle.finish.specs.Ends.{Keeps, Closes}
+use Rattle.answers.specs.Ends.{Keeps, Closes}
 
 -- the same outcome written in another way
 pub gives-as : {o q : Outcome} {r : Tessellated} {vs : List Float} {ts ws : List ℕ} → o ≡ q → Gives o r vs ts ws → Gives q r vs ts ws

@@ -1,7 +1,7 @@
--- `finish::answers::keep` meets its contract. Assumes nothing.
+-- `answers::keep` meets its contract. Assumes nothing.
 use borrow.Author.Needs.{needs}
-use Rattle.finish.proofs.answers.keep.Statement.{statement}
-use Rattle.finish.proofs.answers.keep.Tie as tie
+use Rattle.answers.proofs.keep.Statement.{statement}
+use Rattle.answers.proofs.keep.Tie as tie
 
 mul-clear-floats : tie.Need-mul-clear-floats
 mul-clear-floats c = search needs

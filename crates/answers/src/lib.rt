@@ -1,10 +1,10 @@
-// The end of a call: what stays in the lent slices.
+// The end of a call of `tessellate`: its answer, and what stays in the lent slices.
 ghost use mathlib.Core.Path.{_≡_};
 ghost use Prim.Native.Nat.{_*_, _≤_};
 ghost use lib.ListN.{length};
 ghost use Rattle.outcome.specs.Outcome.{refusedAs};
 ghost use Rattle.outcome.specs.Gives.{Gives};
-ghost use Rattle.finish.specs.Ends.{Keeps, Closes};
+ghost use Rattle.answers.specs.Ends.{Keeps, Closes};
 use mesh::TriMesh;
 use outcome::Tessellated;
 use refusal::Refusal;

@@ -1,9 +1,9 @@
--- `finish::answers::refuse` meets its contract. Assumes nothing.
+-- `answers::refuse` meets its contract. Assumes nothing.
 use denote.Ref.{now}
-use Rattle.finish.proofs.Ending.{refused-gives}
+use Rattle.answers.proofs.Ending.{refused-gives}
 use borrow.Author.Needs.{needs}
-use Rattle.finish.proofs.answers.refuse.Statement.{statement}
-use Rattle.finish.proofs.answers.refuse.Tie as tie
+use Rattle.answers.proofs.refuse.Statement.{statement}
+use Rattle.answers.proofs.refuse.Tie as tie
 
 keep-requires : tie.Need-keep-requires
 keep-requires c κs = search needs
