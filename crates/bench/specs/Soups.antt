@@ -3,8 +3,8 @@ use mathlib.Core.Path.{_≡_}
 use mathlib.Core.Bool.{not}
 use mathlib.Core.List.{List, [], _∷_}
 use Prim.Native.Nat.{ℕ, _+_, _*_, _/_}
-use lib.ListN.{length, getD}
-use lib.Ieee.{Float, nan}
+use lib.ListN.{length}
+use lib.Ieee.{Float}
 use Rattle.math.specs.declared.Vec3.{Vec3}
 use Rattle.refusal.specs.declared.Refusal.{Refusal}
 use Rattle.refusal.specs.declared.Refusal.the-variants.{Accepted, PointNotFinite, ShortWork, NoRoom}
@@ -17,15 +17,12 @@ use Rattle.shape.specs.Drawing.{pick}
 use Rattle.mesh.specs.State.{state, stored}
 use Rattle.outcome.specs.Solid.{partsFinite}
 use Rattle.outcome.specs.Outcome.{shortWork, tooFewPlaces}
-use Rattle.bench.specs.Answers.{at, counts}
+use Rattle.triples.specs.Triples.{vertexAt}
+use Rattle.bench.specs.Answers.{counts}
 
 -- triangle i of the slice
 abbrev pub triangleAt : List Float → ℕ → Tri Vec3
-triangleAt l i = (
-  at (getD l (9 * i) nan) (getD l (9 * i + 1) nan) (getD l (9 * i + 2) nan),
-  at (getD l (9 * i + 3) nan) (getD l (9 * i + 4) nan) (getD l (9 * i + 5) nan),
-  at (getD l (9 * i + 6) nan) (getD l (9 * i + 7) nan) (getD l (9 * i + 8) nan),
-)
+triangleAt l i = (vertexAt l (3 * i), vertexAt l (3 * i + 1), vertexAt l (3 * i + 2))
 
 -- the first n triangles, in their order
 abbrev pub firstOf : List Float → ℕ → Soup

@@ -8,7 +8,7 @@ ghost use Rattle.weld.specs.Rep.{held, Ready, Runs};
 ghost use Rattle.outcome.specs.Outcome.{shortWork};
 ghost use Rattle.draw.specs.Steps.{Welded};
 ghost use Rattle.bench.specs.Soups.{triangleAt, soupOf, Welds};
-use math::Vec3;
+use triples::vertex;
 use weld::Welder;
 
 // Welds triangle i.
@@ -26,28 +26,10 @@ fn weld_at(
         (held w (now (vertices .entry)) (now (triangles .entry)) (now (work .entry)))
         (held r (now (vertices .exit)) (now (triangles .exit)) (now (work .exit))) ⌝ }
 {
-    let at = 9 * i;
-    weld::weld_triangle(
-        vertices,
-        triangles,
-        work,
-        w,
-        Vec3 {
-            x: soup[at],
-            y: soup[at + 1],
-            z: soup[at + 2],
-        },
-        Vec3 {
-            x: soup[at + 3],
-            y: soup[at + 4],
-            z: soup[at + 5],
-        },
-        Vec3 {
-            x: soup[at + 6],
-            y: soup[at + 7],
-            z: soup[at + 8],
-        },
-    )
+    let a = vertex(soup, 3 * i);
+    let b = vertex(soup, 3 * i + 1);
+    let c = vertex(soup, 3 * i + 2);
+    weld::weld_triangle(vertices, triangles, work, w, a, b, c)
 }
 
 // Welds the whole triangles of a soup.
