@@ -1,3 +1,2 @@
 -- What the contracts of `bench` cite beside the definitions of the calls.
 pub mod Answers
-pub mod Soups

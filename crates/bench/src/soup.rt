@@ -1,71 +1,9 @@
 // The welder over a whole soup that is lent, nine floats a triangle.
-ghost use mathlib.Core.Path.{_≡_};
-ghost use mathlib.Core.Bool.{false};
-ghost use mathlib.Core.List.{[], _∷_};
-ghost use Prim.Native.Nat.{_+_, _*_, _≤_};
 ghost use lib.ListN.{length};
-ghost use Rattle.weld.specs.Rep.{held, Ready, Runs};
-ghost use Rattle.outcome.specs.Outcome.{shortWork};
-ghost use Rattle.draw.specs.Steps.{Welded};
-ghost use Rattle.bench.specs.Soups.{triangleAt, soupOf, Welds};
-use triples::vertex;
-use weld::Welder;
+ghost use Rattle.from_soup.specs.Soups.{soupOf, fromSoupOf};
+ghost use Rattle.bench.specs.Answers.{Tells};
 
-// Welds triangle i.
-fn weld_at(
-    vertices: &mut [f64],
-    triangles: &mut [u32],
-    work: &mut [u32],
-    w: Welder,
-    soup: &[f64],
-    i: usize,
-) -> Welder
-    requires { ⌜ Ready (held w (now vertices) (now triangles) (now work)) ⌝ }
-    requires { ⌜ 9 * i + 9 ≤ length (now soup) ⌝ }
-    ensures { λ r. ⌜ Runs (triangleAt (now (soup .entry)) i ∷ [])
-        (held w (now (vertices .entry)) (now (triangles .entry)) (now (work .entry)))
-        (held r (now (vertices .exit)) (now (triangles .exit)) (now (work .exit))) ⌝ }
-{
-    let a = vertex(soup, 3 * i);
-    let b = vertex(soup, 3 * i + 1);
-    let c = vertex(soup, 3 * i + 2);
-    weld::weld_triangle(vertices, triangles, work, w, a, b, c)
-}
-
-// Welds the whole triangles of a soup.
-fn weld_each(
-    vertices: &mut [f64],
-    triangles: &mut [u32],
-    work: &mut [u32],
-    w: Welder,
-    soup: &[f64],
-) -> Welder
-    requires { ⌜ Ready (held w (now vertices) (now triangles) (now work)) ⌝ }
-    ensures { λ r. ⌜ Runs (soupOf (now (soup .entry)))
-        (held w (now (vertices .entry)) (now (triangles .entry)) (now (work .entry)))
-        (held r (now (vertices .exit)) (now (triangles .exit)) (now (work .exit))) ⌝ }
-{
-    let n = soup.len() / 9;
-    let mut st = w;
-    let mut i = 0;
-    while i < n {
-        st = weld_at(vertices, triangles, work, st, soup, i);
-        i += 1;
-    }
-    st
-}
-
-// Welds a soup from an empty mesh.
-fn weld_soup(soup: &[f64], vertices: &mut [f64], triangles: &mut [u32], work: &mut [u32]) -> Welder
-    requires { ⌜ shortWork (length (now vertices)) (length (now work)) ≡ false ⌝ }
-    ensures { λ w. ⌜ Welded (soupOf (now (soup .entry)) ∷ []) w (now (vertices .exit)) (now (triangles .exit)) ⌝ }
-{
-    slices::clear_numbers(work, 0);
-    let b = weld::begin(vertices, work);
-    weld::new_part(weld_each(vertices, triangles, work, b, soup))
-}
-
-// from_soup, for the bench alone. Where the soup is refused, only the number is promised.
+// The mesh of a soup in the lent slices, and its counts.
 #[no_mangle]
 pub extern "C" fn bench_from_soup(
     soup: &[f64],
@@ -75,24 +13,14 @@ pub extern "C" fn bench_from_soup(
     vertex_count: &mut usize,
     triangle_count: &mut usize,
 ) -> u32
-    ensures { λ r. ⌜ Welds (soupOf (now (soup .entry))) (length (now (vertices .entry))) (length (now (triangles .entry))) (length (now (work .entry)))
-        r (now («vertex_count» .exit)) (now («triangle_count» .exit)) (now (vertices .exit)) (now (triangles .exit)) ⌝ }
+    ensures { λ r. ⌜ Tells
+        (fromSoupOf (soupOf (now (soup .entry))) (length (now (vertices .entry))) (length (now (triangles .entry))) (length (now (work .entry))))
+        r (now («vertex_count» .exit)) (now («triangle_count» .exit)) (now (vertices .exit)) (now (triangles .exit)) (now (work .exit)) ⌝ }
 {
-    *vertex_count = 0;
-    *triangle_count = 0;
-    if work.len() < 2 * (vertices.len() / 3) {
-        return 6;
-    }
-    let w = weld_soup(soup, vertices, triangles, work);
-    let finite = w.finite;
-    let room = w.room;
-    if !finite {
-        return 5;
-    }
-    if !room {
-        return 7;
-    }
-    *vertex_count = w.count;
-    *triangle_count = w.faces;
-    0
+    let t = from_soup::from_soup(soup, vertices, triangles, work);
+    let counts = t.mesh;
+    let why = t.refusal;
+    *vertex_count = counts.vertices;
+    *triangle_count = counts.triangles;
+    refusal::number(why)
 }

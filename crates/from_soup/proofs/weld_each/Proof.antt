@@ -1,14 +1,14 @@
--- `bench::soup::weld_each` meets its contract. Assumes nothing.
+-- `from_soup::weld_each` meets its contract. Assumes nothing.
 use denote.Ref.{now}
 use native.Mathlib.Omega.{arith}
 use mathlib.Core.Path.{_≡_, refl}
 use Prim.Native.Nat.{_-_, _/_, _≤_, zero-le}
 use lib.ListN.{length}
 use Rattle.weld.specs.Rep.{held, Runs}
-use Rattle.bench.specs.Soups.{firstOf}
-use Rattle.bench.proofs.SoupRuns.{first-none, first-more, first-all}
-use Rattle.bench.proofs.soup.weld_each.Statement.{statement}
-use Rattle.bench.proofs.soup.weld_each.Tie as tie
+use Rattle.from_soup.specs.Soups.{firstOf}
+use Rattle.from_soup.proofs.SoupRuns.{first-none, first-more, first-all}
+use Rattle.from_soup.proofs.weld_each.Statement.{statement}
+use Rattle.from_soup.proofs.weld_each.Tie as tie
 
 abbrev Inv-loop : tie.InvT-loop
 Inv-loop vertices₀ triangles₀ work₀ soup n st₀ i₀ vertices triangles work st i =

@@ -1,9 +1,9 @@
--- `bench::soup::weld_at` meets its contract. Assumes nothing.
+-- `from_soup::weld_at` meets its contract. Assumes nothing.
 use mathlib.Core.List.{[], _∷_}
 use Rattle.weld.specs.Runs.{runs-as}
 use borrow.Author.Needs.{needs}
-use Rattle.bench.proofs.soup.weld_at.Statement.{statement}
-use Rattle.bench.proofs.soup.weld_at.Tie as tie
+use Rattle.from_soup.proofs.weld_at.Statement.{statement}
+use Rattle.from_soup.proofs.weld_at.Tie as tie
 
 mul-vertex : tie.Need-mul-vertex
 mul-vertex c = search needs

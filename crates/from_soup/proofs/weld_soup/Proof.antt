@@ -1,4 +1,4 @@
--- `bench::soup::weld_soup` meets its contract. Assumes nothing.
+-- `from_soup::weld_soup` meets its contract. Assumes nothing.
 use mathlib.Core.Path.{_≡_}
 use mathlib.Core.List.{[], _∷_}
 use denote.Ref.{now}
@@ -8,10 +8,10 @@ use lib.ListN.{length}
 use Rattle.weld.specs.Rep.{held}
 use Rattle.parts.specs.PartsLaws.{parts-one}
 use Rattle.draw.proofs.Welding.{work-zero, work-enough, parts-welded}
-use Rattle.bench.specs.Soups.{soupOf}
+use Rattle.from_soup.specs.Soups.{soupOf}
 use borrow.Author.Needs.{needs}
-use Rattle.bench.proofs.soup.weld_soup.Statement.{statement}
-use Rattle.bench.proofs.soup.weld_soup.Tie as tie
+use Rattle.from_soup.proofs.weld_soup.Statement.{statement}
+use Rattle.from_soup.proofs.weld_soup.Tie as tie
 
 clear-numbers-requires : tie.Need-clear-numbers-requires
 clear-numbers-requires c κs = search needs

@@ -1,6 +1,5 @@
 -- A soup in a lent slice, nine floats a triangle, and what welding it answers. Definitions only.
-use mathlib.Core.Path.{_≡_}
-use mathlib.Core.Bool.{not}
+use mathlib.Core.Bool.{not, cond}
 use mathlib.Core.List.{List, [], _∷_}
 use Prim.Native.Nat.{ℕ, _+_, _*_, _/_}
 use lib.ListN.{length}
@@ -8,17 +7,14 @@ use lib.Ieee.{Float}
 use Rattle.math.specs.declared.Vec3.{Vec3}
 use Rattle.refusal.specs.declared.Refusal.{Refusal}
 use Rattle.refusal.specs.declared.Refusal.the-variants.{Accepted, PointNotFinite, ShortWork, NoRoom}
-use Rattle.refusal.specs.Number.{numberOf}
 use Rattle.balance.specs.Soup.{Tri}
 use Rattle.balance.specs.Grid.{upto}
 use Rattle.trimesh.specs.Mesh.{fromParts}
 use Rattle.soups.specs.Grid.{Soup}
 use Rattle.shape.specs.Drawing.{pick}
-use Rattle.mesh.specs.State.{state, stored}
 use Rattle.outcome.specs.Solid.{partsFinite}
-use Rattle.outcome.specs.Outcome.{shortWork, tooFewPlaces}
+use Rattle.outcome.specs.Outcome.{Outcome, shortWork, tooFewPlaces, isAccepted, acceptedAs, refusedAs}
 use Rattle.triples.specs.Triples.{vertexAt}
-use Rattle.bench.specs.Answers.{counts}
 
 -- triangle i of the slice
 abbrev pub triangleAt : List Float → ℕ → Tri Vec3
@@ -40,7 +36,9 @@ soupRefusal soup nv nt nw =
     (pick (tooFewPlaces (fromParts (soup ∷ [])) nv nt) NoRoom
     Accepted))
 
--- the refusal's number; accepted, the slices begin with the mesh of the soup as one part, and n and k count it
-pub record Welds (soup : Soup) (nv nt nw number n k : ℕ) (vs : List Float) (ts : List ℕ) : Type 0 where
-  pub refusal : number ≡ numberOf (soupRefusal soup nv nt nw)
-  pub mesh : number ≡ 0 → state (counts n k) vs ts ≡ stored (fromParts (soup ∷ [])) (state (counts n k) vs ts)
+-- from_soup, the soup as one part, with slices of nv floats, nt and nw numbers
+unfoldable pub fromSoupOf : Soup → ℕ → ℕ → ℕ → Outcome
+unfolding isAccepted
+fromSoupOf soup nv nt nw =
+    let r = soupRefusal soup nv nt nw in
+    cond (isAccepted r) (acceptedAs (fromParts (soup ∷ [])) nv nt nw) (refusedAs r nv nt nw)

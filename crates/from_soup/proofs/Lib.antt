@@ -1,0 +1,2 @@
+-- Laws that the proofs of `from_soup` use.
+pub mod SoupRuns

@@ -1,0 +1,2 @@
+-- What the contract of `from_soup` cites.
+pub mod Soups
