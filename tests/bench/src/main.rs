@@ -33,26 +33,28 @@ fn main() {
 
 /// Medians, ns a triangle.
 fn time(row: &mut rows::Row, repetitions: usize) -> (f64, f64) {
-    let (n, m) = (calls(&mut row.ours), calls(&mut row.rust));
+    let mut nothing = |_| ();
+    let (n, m) = (calls(&mut nothing, &mut row.ours), calls(&mut row.prepare, &mut row.rust));
     let (mut ours, mut rust) = (Vec::new(), Vec::new());
     for _ in 0..repetitions {
-        ours.push(sample(&mut row.ours, n));
-        rust.push(sample(&mut row.rust, m));
+        ours.push(sample(&mut nothing, &mut row.ours, n));
+        rust.push(sample(&mut row.prepare, &mut row.rust, m));
     }
     (median(ours) / row.triangles as f64, median(rust) / row.triangles as f64)
 }
 
 /// How many calls make a sample; also warms up.
-fn calls(call: &mut dyn FnMut()) -> usize {
+fn calls(prepare: &mut dyn FnMut(usize), call: &mut dyn FnMut()) -> usize {
     let mut n = 1;
-    while sample(call, n) * (n as f64) < SAMPLE_NS {
+    while sample(prepare, call, n) * (n as f64) < SAMPLE_NS {
         n *= 2;
     }
     n
 }
 
-/// Nanoseconds a call, over n calls.
-fn sample(call: &mut dyn FnMut(), n: usize) -> f64 {
+/// Nanoseconds a call, over n calls, which are prepared before the time is taken.
+fn sample(prepare: &mut dyn FnMut(usize), call: &mut dyn FnMut(), n: usize) -> f64 {
+    prepare(n);
     let begin = now();
     for _ in 0..n {
         call();

@@ -5,19 +5,28 @@ use csx_plain::CoordSystem::Cartesian;
 use csx_plain::primitives::{BoxShape, Cylinder, LinPoly, Primitive, RotPoly, Sphere, Wire};
 use csx_plain::tessellate::{TessellationOptions, TriMesh, tessellate};
 use csx_plain::{Mat4, Vec3};
+use std::cell::RefCell;
 use std::f64::consts::TAU;
 use std::hint::black_box;
+use std::rc::Rc;
 
 pub struct Row {
     pub name: &'static str,
     /// By which the time of a call is divided.
     pub triangles: usize,
     pub ours: Box<dyn FnMut()>,
+    /// What so many calls of the Rust need beforehand; its time does not count.
+    pub prepare: Box<dyn FnMut(usize)>,
     pub rust: Box<dyn FnMut()>,
 }
 
+/// Calls that need nothing beforehand.
+fn unprepared() -> Box<dyn FnMut(usize)> {
+    Box::new(|_| ())
+}
+
 /// The rows by name; a row is built when it is run.
-pub const ROWS: [(&str, fn(&'static str) -> Row); 14] = [
+pub const ROWS: [(&str, fn(&'static str) -> Row); 15] = [
     ("sphere 32x16", |name| sphere(name, 32, 16)),
     ("sphere 256x128", |name| sphere(name, 256, 128)),
     ("sphere 1024x1024", |name| sphere(name, 1024, 1024)),
@@ -29,6 +38,7 @@ pub const ROWS: [(&str, fn(&'static str) -> Row); 14] = [
     ("area", area),
     ("signed_volume", signed_volume),
     ("append", append),
+    ("append in place", append_in_place),
     ("flip", flip),
     ("transform", transform),
     ("from_soup 1000000", from_soup),
@@ -53,6 +63,7 @@ fn solid(name: &'static str, solid: Solid, primitive: Primitive, segments: usize
         name,
         triangles: mesh.triangles.len(),
         ours: Box::new(move || _ = black_box(ours::tessellate(black_box(&solid), segments, rings, &mut lent))),
+        prepare: unprepared(),
         rust: Box::new(move || _ = black_box(tessellate(black_box(&primitive), Cartesian, &options))),
     }
 }
@@ -114,6 +125,7 @@ fn area(name: &'static str) -> Row {
         name,
         triangles: mesh.triangles.len(),
         ours: Box::new(move || _ = black_box(ours::area(black_box(&lent)))),
+        prepare: unprepared(),
         rust: Box::new(move || _ = black_box(black_box(&mesh).area())),
     }
 }
@@ -125,13 +137,42 @@ fn signed_volume(name: &'static str) -> Row {
         name,
         triangles: mesh.triangles.len(),
         ours: Box::new(move || _ = black_box(ours::signed_volume(black_box(&lent)))),
+        prepare: unprepared(),
         rust: Box::new(move || _ = black_box(black_box(&mesh).signed_volume())),
     }
 }
 
-/// The sphere appended to itself. Ours gets the first counts again before each call; the Rust's lists are cut back and keep their
-/// capacity, so neither side allocates. The triangles that are appended count.
+/// The sphere appended to itself. Ours gets the first counts again before each call. The Rust's lists are as `tessellate` leaves them, without
+/// room for more, and grow in the call. The triangles that are appended count.
 fn append(name: &'static str) -> Row {
+    let (other, more) = meshes(name, 1);
+    let (mut lent, mesh) = meshes(name, 2);
+    let (n, k) = (mesh.vertices.len(), mesh.triangles.len());
+    let mut twice = mesh.clone();
+    twice.append(&more);
+    agree(name, ours::append(&mut lent, &other), &lent, &twice);
+    let pool = Rc::new(RefCell::new((Vec::new(), Vec::new())));
+    let filled = Rc::clone(&pool);
+    Row {
+        name,
+        triangles: k,
+        ours: Box::new(move || {
+            (lent.vertex_count, lent.triangle_count) = (n, k);
+            black_box(ours::append(black_box(&mut lent), &other));
+        }),
+        prepare: Box::new(move |calls| *filled.borrow_mut() = (vec![mesh.clone(); calls], Vec::with_capacity(calls))),
+        rust: Box::new(move || {
+            let (waiting, done) = &mut *pool.borrow_mut();
+            let mut mesh: TriMesh = waiting.pop().expect("a mesh for each call");
+            black_box(&mut mesh).append(&more);
+            // Kept, so that dropping it does not count.
+            done.push(mesh);
+        }),
+    }
+}
+
+/// The same where the Rust's lists are cut back and keep their capacity, so that neither side allocates.
+fn append_in_place(name: &'static str) -> Row {
     let (other, more) = meshes(name, 1);
     let (mut lent, mut mesh) = meshes(name, 2);
     let (n, k) = (mesh.vertices.len(), mesh.triangles.len());
@@ -144,6 +185,7 @@ fn append(name: &'static str) -> Row {
             (lent.vertex_count, lent.triangle_count) = (n, k);
             black_box(ours::append(black_box(&mut lent), &other));
         }),
+        prepare: unprepared(),
         rust: Box::new(move || {
             mesh.vertices.truncate(n);
             mesh.triangles.truncate(k);
@@ -160,6 +202,7 @@ fn flip(name: &'static str) -> Row {
         name,
         triangles: mesh.triangles.len(),
         ours: Box::new(move || _ = black_box(ours::flip(black_box(&mut lent)))),
+        prepare: unprepared(),
         rust: Box::new(move || black_box(&mut mesh).flip()),
     }
 }
@@ -177,6 +220,7 @@ fn transform(name: &'static str) -> Row {
         name,
         triangles: mesh.triangles.len(),
         ours: Box::new(move || _ = black_box(ours::transform(black_box(&mut lent), axis, angle, by))),
+        prepare: unprepared(),
         rust: Box::new(move || black_box(&mut mesh).transform(&black_box(matrix()))),
     }
 }
@@ -194,6 +238,7 @@ fn from_soup(name: &'static str) -> Row {
         name,
         triangles: mesh.triangles.len(),
         ours: Box::new(move || _ = black_box(ours::from_soup(black_box(&floats), &mut lent))),
+        prepare: unprepared(),
         rust: Box::new(move || _ = black_box(TriMesh::from_soup(black_box(&soup)))),
     }
 }
