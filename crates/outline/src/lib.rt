@@ -1,14 +1,11 @@
-// The corners of an outline before they are clipped (src/tessellate.rs), and the axes of its plane (src/primitives/poly.rs).
+// The corners of an outline before they are clipped: clean_polygon of src/tessellate.rs.
 ghost use mathlib.Core.Path.{_≡_};
 ghost use mathlib.Core.List.{[]};
 ghost use Prim.Native.Nat.{_+_, _*_, _/_, _<_, _≤_};
 ghost use lib.ListN.{length, take};
 ghost use Rattle.outline.specs.Corners.{point, same as same·, padded};
 ghost use Rattle.outline.specs.Clean.{endsIn, pushed, gathered, stay as stay·, cleanPolygon};
-ghost use Rattle.outline.specs.Area.{wedge as wedge·, signedArea};
-ghost use Rattle.outline.specs.Ccw.{swapped, reversed, ccwPolygon, prepared};
-ghost use Rattle.outline.specs.Axes.{planeAxes};
-ghost use Rattle.outline.specs.Slices.{Wrote, Grew, Copied};
+ghost use Rattle.outline.specs.Slices.{Wrote, Grew};
 
 // A corner.
 pub struct Point {
@@ -58,7 +55,7 @@ fn ends_in(out: &[f64], m: usize, p: Point) -> bool
 }
 
 // Corner m of out becomes p.
-fn put_corner(out: &mut [f64], m: usize, p: Point)
+pub fn put_corner(out: &mut [f64], m: usize, p: Point)
     requires { ⌜ 2 * m + 2 ≤ length (now out) ⌝ }
     ensures { λ _. ⌜ Wrote m p (now (out .entry)) (now (out .exit)) ⌝ }
 {
@@ -120,100 +117,4 @@ pub fn clean_polygon(v: &[f64], out: &mut [f64]) -> usize
     let n = stay(out, m);
     slices::clear_floats(out, 2 * n);
     n
-}
-
-// ---- signed_area
-
-// What the side from a to b adds to twice the area.
-fn wedge(a: Point, b: Point) -> f64
-    ensures { λ r. ⌜ r ≡ wedge· a b ⌝ }
-{
-    a.x * b.y - b.x * a.y
-}
-
-// The area that the corners enclose, positive where they run counter-clockwise.
-pub fn signed_area(v: &[f64]) -> f64
-    ensures { λ r. ⌜ r ≡ signedArea (now (v .entry)) ⌝ }
-{
-    let n = v.len() / 2;
-    let mut s = 0.0;
-    let mut i = 0;
-    while i < n {
-        let j = (i + 1) % n;
-        s = s + wedge(corner(v, i), corner(v, j));
-        i += 1;
-    }
-    s / 2.0
-}
-
-// ---- ccw_polygon
-
-// The corners of v from the last to the first, at the start of out.
-fn copy_reversed(v: &[f64], out: &mut [f64])
-    requires { ⌜ length (now v) ≤ length (now out) ⌝ }
-    ensures { λ _. ⌜ Copied (reversed (now (v .entry))) (length (now (v .entry)) / 2) (now (out .entry)) (now (out .exit)) ⌝ }
-{
-    let n = v.len() / 2;
-    let mut i = 0;
-    while i < n {
-        let p = corner(v, n - 1 - i);
-        put_corner(out, i, p);
-        i += 1;
-    }
-}
-
-// The corners of v with their coordinates exchanged, at the start of out; and how many there are.
-fn copy_swapped(v: &[f64], out: &mut [f64]) -> usize
-    requires { ⌜ length (now v) ≤ length (now out) ⌝ }
-    ensures { λ r. ⌜ Copied (swapped (now (v .entry))) r (now (out .entry)) (now (out .exit)) ⌝ }
-{
-    let n = v.len() / 2;
-    let mut i = 0;
-    while i < n {
-        let p = corner(v, i);
-        put_corner(out, i, Point { x: p.y, y: p.x });
-        i += 1;
-    }
-    n
-}
-
-// The cleaned corners counter-clockwise: reversed where their signed area is below 0. out holds them, then +0.0.
-pub fn ccw_polygon(v: &[f64], out: &mut [f64; 1024]) -> usize
-    requires { ⌜ length (now v) ≤ 1024 ⌝ }
-    ensures { λ r. ⌜ (2 * r ≡ length (ccwPolygon (now (v .entry)))) × (now (out .exit) ≡ padded (ccwPolygon (now (v .entry))) 1024) ⌝ }
-{
-    let n = clean_polygon(v, out);
-    let held = *out;
-    let p = &held[..2 * n];
-    if signed_area(p) < 0.0 {
-        copy_reversed(p, out);
-        return n;
-    }
-    n
-}
-
-// The corners that a solid is made from: those of ccw_polygon, of the corners swapped where swap says so (a rotated outline). out holds them, then +0.0.
-pub fn prepare(list: &[f64], swap: bool, out: &mut [f64; 1024]) -> usize
-    requires { ⌜ length (now list) ≤ 1024 ⌝ }
-    ensures { λ r. ⌜ (2 * r ≡ length (prepared swap (now (list .entry)))) × (now (out .exit) ≡ padded (prepared swap (now (list .entry))) 1024) ⌝ }
-{
-    if swap {
-        let mut held = [0.0; 1024];
-        let m = copy_swapped(list, &mut held);
-        return ccw_polygon(&held[..2 * m], out);
-    }
-    ccw_polygon(list, out)
-}
-
-// ---- plane_axes
-
-// The axes of the plane whose normal is axis n.
-pub fn plane_axes(n: u8) -> Axes
-    ensures { λ r. ⌜ r ≡ planeAxes n ⌝ }
-{
-    let k = n as usize;
-    Axes {
-        u: (k + 1) % 3,
-        v: (k + 2) % 3,
-    }
 }

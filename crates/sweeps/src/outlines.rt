@@ -200,7 +200,7 @@ pub fn weld_extruded(
         (held r (now (vertices .exit)) (now (triangles .exit)) (now (work .exit))) ⌝ }
 {
     let mut corners = [0.0; 1024];
-    let len = outline::ccw_polygon(list, &mut corners);
+    let len = winding::ccw_polygon(list, &mut corners);
     let m = 2 * len;
     weld_extruded_from(vertices, triangles, work, w, n, &corners[..m], lo, hi)
 }
@@ -298,7 +298,7 @@ fn swaps(a: u8, normal: u8, q: usize) -> bool
     requires { ⌜ q ≡ Polygons.radialAxis a normal ⌝ }
     ensures { λ r. ⌜ r ≡ Polygons.swaps a normal ⌝ }
 {
-    let axes = outline::plane_axes(normal);
+    let axes = winding::plane_axes(normal);
     let u = axes.u;
     if u == q { false } else { true }
 }
@@ -325,7 +325,7 @@ pub fn weld_rotated(
     let axis = a as usize;
     let q = 3 - axis - (normal as usize);
     let swap = swaps(a, normal, q);
-    let len = outline::prepare(list, swap, &mut corners);
+    let len = winding::prepare(list, swap, &mut corners);
     let m = 2 * len;
     weld_rotated_from(
         vertices,

@@ -1,15 +1,15 @@
--- `outline::prepare` meets its contract. Assumes nothing.
+-- `winding::prepare` meets its contract. Assumes nothing.
 use denote.Ref.{now}
 use mathlib.Core.Path.{_≡_, refl, sym, ap, _∙_}
 use native.Mathlib.Omega.{arith}
 use Prim.Native.Nat.{_≤_, _*_}
 use lib.ListN.{length}
 use lib.Seq.{length-take-le}
 use Rattle.outline.proofs.Copies.{copied-short, copied-take, prepared-swapped, prepared-as-given, prepared-is}
--- `outline::prepare` meets its contract. Assumes nothing.
+-- `winding::prepare` meets its contract. Assumes nothing.
 use borrow.Author.Needs.{needs}
-use Rattle.outline.proofs.prepare.Statement.{statement}
-use Rattle.outline.proofs.prepare.Tie as tie
+use Rattle.winding.proofs.prepare.Statement.{statement}
+use Rattle.winding.proofs.prepare.Tie as tie
 
 slice-aggregate-copy-swapped : tie.Need-slice-aggregate-copy-swapped
 slice-aggregate-copy-swapped c = search needs

@@ -1,9 +1,9 @@
--- `outline::plane_axes` meets its contract. Assumes nothing.
+-- `winding::plane_axes` meets its contract. Assumes nothing.
 use Rattle.outline.specs.Axes.{planeAxes}
 use mathlib.Core.Path.{refl}
 use borrow.Author.Needs.{needs}
-use Rattle.outline.proofs.plane_axes.Statement.{statement}
-use Rattle.outline.proofs.plane_axes.Tie as tie
+use Rattle.winding.proofs.plane_axes.Statement.{statement}
+use Rattle.winding.proofs.plane_axes.Tie as tie
 
 add-t3 : tie.Need-add-t3
 add-t3 c = search needs

@@ -1,27 +1,22 @@
--- `outline::copy_reversed` meets its contract. Assumes nothing.
+-- `winding::copy_swapped` meets its contract. Assumes nothing.
 use denote.Ref.{now}
 use mathlib.Core.Path.{_≡_, refl, sym, ap, _∙_}
 use native.Mathlib.Omega.{arith}
-use Prim.Native.Nat.{_≤_, _-_}
-use Rattle.outline.specs.Ccw.{reversed}
-use Rattle.outline.proofs.Copies.{Reversing, reversing-start, reversing-next, reversing-end}
-use Rattle.outline.proofs.copy_reversed.Statement.{statement}
-use Rattle.outline.proofs.copy_reversed.Tie as tie
+use Prim.Native.Nat.{_≤_, _-_, _/_}
+use lib.ListN.{length}
+use Rattle.outline.specs.Ccw.{swapped}
+use Rattle.outline.proofs.Copies.{Swapping, swapping-start, swapping-next, swapping-end}
+use Rattle.winding.proofs.copy_swapped.Statement.{statement}
+use Rattle.winding.proofs.copy_swapped.Tie as tie
 
 abbrev Inv-loop : tie.InvT-loop
-Inv-loop v out₀ n i₀ out i = (i ≤ n) × Reversing v i out₀ out
+Inv-loop v out₀ n i₀ out i = (i ≤ n) × Swapping v i out₀ out
 
 abbrev μ-loop : tie.MeasureT-loop
 μ-loop v out₀ n i₀ out i = n - i
 
 loop-holds : tie.Need-loop-holds Inv-loop μ-loop
-loop-holds c = let a = c .before .before .args in (omega arith, reversing-start (now (a .v)) (now (a .out)))
-
-sub-corner : tie.Need-sub-corner Inv-loop μ-loop
-sub-corner c = omega arith
-
-sub-corner-2 : tie.Need-sub-corner-2 Inv-loop μ-loop
-sub-corner-2 c = omega arith
+loop-holds c = let a = c .before .before .args in (omega arith, swapping-start (now (a .v)) (now (a .out)))
 
 corner-requires : tie.Need-corner-requires Inv-loop μ-loop
 corner-requires c κs = omega arith
@@ -41,8 +36,8 @@ loop-again c =
     let l = c .before .before .before .before .before .before .loop in
     let p = c .before .before .before .before .corner in (
       omega arith,
-      reversing-next (now (a .v)) (l .i) (p .result) (now (a .out)) (l .out) _ (omega arith) (p .ensures) (c .before .before .put-corner .kept .0) (l .inv .1)
-          (c .before .before .put-corner .ensures),
+      swapping-next (now (a .v)) (l .i) (record { x = p .result .y; y = p .result .x }) (p .result) (now (a .out)) (l .out) _ (omega arith) (p .ensures) refl refl
+          (c .before .before .put-corner .kept .0) (l .inv .1) (c .before .before .put-corner .ensures),
     )
 
 same-length : tie.Need-same-length Inv-loop μ-loop
@@ -52,17 +47,16 @@ returns : tie.Need-returns Inv-loop μ-loop
 returns c =
     let a = c .before .before .before .before .args in
     let l = c .before .loop in
-    reversing-end (now (a .v)) (l .i) (now (a .out)) (l .out) (omega arith) (l .inv .1)
+    let e : l .i ≡ length (now (a .v)) / 2 = omega arith in
+    rw e at (swapping-end (now (a .v)) (l .i) (now (a .out)) (l .out) e (l .inv .1))
 
-pub copy-reversed-spec : {M : Type 1} → statement M
-copy-reversed-spec =
+pub copy-swapped-spec : {M : Type 1} → statement M
+copy-swapped-spec =
     tie.close
     (tie.spec
     Inv-loop
     μ-loop
     loop-holds
-    sub-corner
-    sub-corner-2
     corner-requires
     put-corner-requires
     add-i

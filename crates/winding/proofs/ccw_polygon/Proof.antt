@@ -1,18 +1,18 @@
--- `outline::ccw_polygon` meets its contract. Assumes nothing.
+-- `winding::ccw_polygon` meets its contract. Assumes nothing.
 use Rattle.outline.specs.Corners.{padded}
--- `outline::ccw_polygon` meets its contract. Assumes nothing.
+-- `winding::ccw_polygon` meets its contract. Assumes nothing.
 use denote.Ref.{now}
 use mathlib.Core.Path.{_≡_, refl, sym, ap, _∙_}
 use native.Mathlib.Omega.{arith}
 use Prim.Native.Nat.{_≤_, _*_}
 use lib.ListN.{length}
 use lib.Seq.{length-take-le}
 use Rattle.outline.specs.Clean.{cleanPolygon}
 use Rattle.outline.proofs.Copies.{padded-long, ccw-kept, ccw-turned}
--- `outline::ccw_polygon` meets its contract. Assumes nothing.
+-- `winding::ccw_polygon` meets its contract. Assumes nothing.
 use borrow.Author.Needs.{needs}
-use Rattle.outline.proofs.ccw_polygon.Statement.{statement}
-use Rattle.outline.proofs.ccw_polygon.Tie as tie
+use Rattle.winding.proofs.ccw_polygon.Statement.{statement}
+use Rattle.winding.proofs.ccw_polygon.Tie as tie
 
 clean-polygon-requires : tie.Need-clean-polygon-requires
 clean-polygon-requires c κs = search needs

@@ -1,4 +1,4 @@
--- `outline::signed_area` meets its contract. Assumes nothing.
+-- `winding::signed_area` meets its contract. Assumes nothing.
 use denote.Ref.{now}
 use mathlib.Core.Path.{_≡_, refl, sym, ap, _∙_}
 use native.Mathlib.Omega.{arith}
@@ -6,11 +6,11 @@ use Prim.Native.Nat.{_≤_, _-_, _+_, _/_, _%_}
 use native.Mathlib.Nat.{mod-lt, sub-zero}
 use lib.ListN.{length}
 use lib.Ieee.{Float, binary64, add, ofBits}
 use Rattle.outline.specs.Corners.{point}
 use Rattle.outline.specs.Area.{sides, wedge}
 use Rattle.outline.proofs.Laws.{sides-next, area-is}
-use Rattle.outline.proofs.signed_area.Statement.{statement}
-use Rattle.outline.proofs.signed_area.Tie as tie
+use Rattle.winding.proofs.signed_area.Statement.{statement}
+use Rattle.winding.proofs.signed_area.Tie as tie
 
 abbrev Inv-loop : tie.InvT-loop
 Inv-loop v n s₀ i₀ s i = (i ≤ n) × (sides v n s i (n - i) ≡ sides v n s₀ 0 n)
