@@ -5,7 +5,8 @@ use Prim.Native.Nat.{ℕ, zero, suc, _+_, _-_, _*_, _^_, _≤_, _<_, zero-le}
 use native.Mathlib.Nat.{le-trans, le-of-eq, le-of-lt, zero-lt-suc, mul-one, one-mul, zero-mul, mul-comm, mul-assoc, mul-left-comm, mul-right-comm}
 use native.Mathlib.Nat.{mul-pos, mul-le-mul, mul-le-mul-right, le-of-mul-le-mul-right, add-le-add, sub-le, two-pow-succ}
 use native.Mathlib.Omega.{arith}
-use mathlib.Core.Bool.{Bool, true, false, _&&_, _||_, cond, Bool·beq, true≢false}
+use mathlib.Core.Bool.{Bool, true, false, _&&_, _||_, cond, Bool·beq, true≢false, false≢true}
+use mathlib.Core.List.{List, [], _∷_}
 use lib.IntN.{ℤ, pos, negsuc}
 use lib.Dec.{T, ltb, eqb, ltb→lt, eqb→eq, lit≤}
 use lib.Pow.{pow-add, pow-mono, pow-lt}
@@ -14,6 +15,8 @@ use lib.Ieee.Fits.{two, down-pos, and-l, and-r, round-is}
 use lib.Ieee.Exact.{HasValue, round-exact}
 use lib.Ieee.Order.{kept, drop, round-mono}
 use lib.Ieee.Scale.{finite}
+use lib.Ieee.Bits.{is-true}
+use Rattle.slices.specs.Every.{every}
 use Rattle.bounded.specs.Bounded.{withinPower, within}
 
 -- |x| ≤ 2 ^ k
@@ -162,6 +165,15 @@ module _ (f : Format) (k : ℕ) (h : suc (suc (suc (k + k))) ≤ emax f) (a b c 
 pub within-finite : (x : Float) → T (within x) → T (finite x)
 unfolding within
 within-finite x h = at-most-finite 400 x (within-power 400 x h)
+
+pub every-finite : (l : List Float) → every within l ≡ true → every finite l ≡ true
+unfolding every
+every-finite [] e = refl
+every-finite (x ∷ l) e = go (within x) (every within l) e (within-finite x) (every-finite l)
+  where
+    go : (a b : Bool) → (a && b) ≡ true → (T a → T (finite x)) → (b ≡ true → every finite l ≡ true) → (finite x && every finite l) ≡ true
+    go true b e h k = rw (is-true (finite x) (h tt), k e)
+    go false b e h k = absurd (false≢true e)
 
 pub row-finite : (a b c d x y z : Float) → T (within a) → T (within b) → T (within c) → T (within d) → T (within x) → T (within y) → T (within z)
     → T (finite (add binary64 (add binary64 (add binary64 (mul binary64 a x) (mul binary64 b y)) (mul binary64 c z)) d))

@@ -2,8 +2,9 @@
 ghost use mathlib.Core.Path.{_≡_};
 ghost use Prim.Native.Nat.{_≤_};
 ghost use lib.ListN.{length, take};
+ghost use lib.Ieee.Scale.{finite};
 ghost use Rattle.slices.specs.Every.{every};
-ghost use Rattle.bounded.specs.Bounded.{within};
+ghost use Rattle.bounded.specs.Bounded.{within, Small};
 
 // Whether x lies within the bounds. A NaN does not.
 pub fn is_within(x: f64) -> bool
@@ -24,4 +25,15 @@ pub fn all_within(floats: &[f64], count: usize) -> bool
         i += 1;
     }
     ok
+}
+
+// Whether the first count floats are finite. Nothing is read where `small` says that they lie within the bounds.
+pub fn all_finite(floats: &[f64], count: usize, small: bool) -> bool
+    requires { ⌜ Small (now floats) count small ⌝ }
+    ensures { λ r. ⌜ r ≡ every finite (take count (now (floats .entry))) ⌝ }
+{
+    if small {
+        return true;
+    }
+    slices::all_finite(floats, count)
 }

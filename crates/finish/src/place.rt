@@ -23,7 +23,7 @@ fn move_mesh(counts: TriMesh, vertices: &mut [f64], triangles: &mut [u32], a: Ma
     let k = counts.triangles;
     moves::move_all(vertices, n, a);
     if matrix::determinant(a) < 0.0 {
-        moves::turn_all(triangles, k);
+        writes::turn_all(triangles, k);
         return;
     }
 }

@@ -34,7 +34,7 @@ pub fn turn_outward(counts: TriMesh, vertices: &[f64], triangles: &mut [u32])
     let k = counts.triangles;
     let volume = measure::volume_sum(vertices, triangles, k) / 6.0;
     if volume < 0.0 {
-        moves::turn_all(triangles, k);
+        writes::turn_all(triangles, k);
         return;
     }
 }

@@ -23,7 +23,7 @@ use Rattle.refusal.specs.declared.Refusal.{Refusal}
 use Rattle.refusal.specs.declared.Refusal.the-variants.{Accepted, NotFinite, AngleTooLarge, BadList, PointNotFinite, NoRoom, BadMesh}
 use Rattle.slices.specs.Every.{wholePlaces, every}
 use Rattle.mesh.specs.State.{State, meshOf, badMesh, notFinite, checkOf, isAccepted, edited, Gives, Sound}
-use Rattle.mesh.specs.Edits.{noRoom, appendRefusal, transformed, transformRefusal}
+use Rattle.mesh.specs.Edits.{noRoom, appendRefusal, transformed, moveRefusal, transformRefusal}
 use Rattle.mesh.proofs.Stored.{appended-vertices, appended-triangles}
 
 -- ---- an edit
@@ -145,21 +145,6 @@ module _ (ops : List TransformOp) (count : ℕ) (degrees : Bool) (s : State) whe
       unfolding transformRefusal
       transform-not-finite e = rw (good, short, e)
 
-      module _ (known : (notFinite s || not (opsFinite used)) ≡ false) where
-        pub transform-angle : opsAnglesWithin degrees used ≡ false → AngleTooLarge ≡ transformRefusal ops count degrees s
-        unfolding transformRefusal
-        transform-angle e = rw (good, short, known, e)
-
-        module _ (within : opsAnglesWithin degrees used ≡ true) where
-          pub transform-none : eqb count 0 ≡ true → Accepted ≡ transformRefusal ops count degrees s
-          unfolding transformRefusal
-          transform-none e = rw (good, short, known, within, e)
-
-          pub transform-point : (r : Refusal) (b : Bool) → cond b Accepted PointNotFinite ≡ r → eqb count 0 ≡ false
-              → every vFinite (transformed ops count degrees (meshOf s) .vertices) ≡ b → r ≡ transformRefusal ops count degrees s
-          unfolding transformRefusal
-          transform-point r b h e f = rw (good, short, known, within, e, f) (sym h)
-
 -- ---- a mesh under a matrix
 pub transform-mirrors : (a : Mat4) (m : Mesh) → lt (determinant a) (ofBits binary64 0) ≡ true → transform a m ≡ flip (moved a m)
 unfolding transform
@@ -177,12 +162,28 @@ transform-vertices a m = go (lt (determinant a) (ofBits binary64 0))
     go true = refl
     go false = refl
 
--- the test of the transformed vertices, as the loop answers it for the matrix a
-pub points-test : (ops : List TransformOp) (count : ℕ) (degrees : Bool) (s : State) (a : Mat4) (r b : Bool) → a ≡ folded degrees (take count ops)
-    → r ≡ every vFinite (map (transformPoint a) (points (take (3 * s .mesh .vertices) (s .vertices)))) → r ≡ b → every vFinite (transformed ops count degrees (meshOf s) .vertices) ≡ b
-unfolding meshOf transformed
-points-test ops count degrees s a r b f e h =
-    ap {B = Bool} (every vFinite) (transform-vertices (folded degrees (take count ops)) (meshOf s))
-    ∙ sym (ap {B = Bool} (λ (m : Mat4). every vFinite (map (transformPoint m) (meshOf s .vertices))) f)
-    ∙ sym e
-    ∙ h
+-- ---- the end of a transform's refusals
+module _ (ops : List TransformOp) (count : ℕ) (degrees : Bool) (ps : List Vec3) where
+  pub move-angle : opsAnglesWithin degrees (take count ops) ≡ false → AngleTooLarge ≡ moveRefusal ops count degrees ps
+  unfolding moveRefusal
+  move-angle e = rw e
+
+  module _ (within : opsAnglesWithin degrees (take count ops) ≡ true) where
+    pub move-none : eqb count 0 ≡ true → Accepted ≡ moveRefusal ops count degrees ps
+    unfolding moveRefusal
+    move-none e = rw (within, e)
+
+    pub move-points : eqb count 0 ≡ false → (a : Mat4) (r b : Bool) → a ≡ folded degrees (take count ops) → r ≡ every vFinite (map (transformPoint a) ps) → r ≡ b
+        → cond b Accepted PointNotFinite ≡ moveRefusal ops count degrees ps
+    unfolding moveRefusal
+    move-points e a r b f t h =
+        let q : every vFinite (map (transformPoint (folded degrees (take count ops))) ps) ≡ b = sym (ap {B = Bool} (λ (m : Mat4). every vFinite (map (transformPoint m) ps)) f) ∙ sym t ∙ h in
+        rw (within, e, q)
+
+-- after 8, 4 and 1
+pub transform-rest : (ops : List TransformOp) (count : ℕ) (degrees : Bool) (s : State) → badMesh s ≡ false → opCountWithin count ≡ true
+    → (notFinite s || not (opsFinite (take count ops))) ≡ false → (r : Refusal) → r ≡ moveRefusal ops count degrees (points (take (3 * s .mesh .vertices) (s .vertices)))
+    → r ≡ transformRefusal ops count degrees s
+unfolding transformRefusal moveRefusal meshOf transformed
+transform-rest ops count degrees s good short known r e =
+    rw (good, short, known, transform-vertices (folded degrees (take count ops)) (meshOf s)) e

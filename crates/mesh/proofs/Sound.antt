@@ -10,7 +10,8 @@ use lib.Ieee.Scale.{finite}
 use borrow.Author.Tests.{ltb-true, ltb-false, lt-ltb, le-ltb, not-false}
 use Rattle.slices.specs.Every.{wholePlaces, every}
 use Rattle.mesh.specs.State.{State, badMesh, notFinite, Sound}
-use Rattle.moves.specs.Affine.{FiniteVertices}
+use Rattle.bounded.specs.Bounded.{within}
+use Rattle.moves.specs.Affine.{FiniteVertices, Tested}
 use Rattle.slices.proofs.Next.{every-at}
 
 pub neither : (a b : Bool) → (a || b) ≡ false → (a ≡ false) × (b ≡ false)
@@ -54,6 +55,9 @@ module _ (s : State) (good : badMesh s ≡ false) where
   pub finite-vertices : notFinite s ≡ false → FiniteVertices (s .vertices) (s .mesh .vertices)
   unfolding notFinite
   finite-vertices h = record { within = sound .vertices; finite = not-false (every finite (take (3 * s .mesh .vertices) (s .vertices))) h }
+
+  pub tested : notFinite s ≡ false → (small : Bool) → small ≡ every within (take (3 * s .mesh .vertices) (s .vertices)) → Tested (s .vertices) (s .mesh .vertices) small
+  tested h small e = record { vertices = finite-vertices h; bounded = λ t. sym e ∙ t }
 
 -- ---- the tests in their order
 or-true : (b : Bool) → (b || true) ≡ true

@@ -1,10 +1,12 @@
 -- `append`, `flip` and `transform` of a mesh in lent slices, with the refusals in document 01's order: 8, 4, 1, 2, 7, 5, each where it applies. Definitions only.
 use mathlib.Core.Bool.{Bool, not, _||_, cond}
-use mathlib.Core.List.{List}
+use mathlib.Core.List.{List, map}
 use Prim.Native.Nat.{ℕ}
 use lib.ListN.{length, take}
 use lib.Dec.{ltb, eqb}
+use Rattle.math.specs.declared.Vec3.{Vec3}
 use Rattle.math.specs.Vec.{vFinite}
+use Rattle.matrix.specs.Mat.{transformPoint}
 use Rattle.transform.specs.declared.TransformOp.{TransformOp}
 use Rattle.transform.specs.Ops.{folded}
 use Rattle.transform.specs.Checks.{opCountWithin, opsFinite, opsAnglesWithin}
@@ -51,6 +53,13 @@ transformRefusal ops count degrees s =
     (cond (not (opsAnglesWithin degrees (take count ops))) AngleTooLarge
     (cond (eqb count 0) Accepted
     (cond (every vFinite (transformed ops count degrees (meshOf s) .vertices)) Accepted PointNotFinite)))))
+
+-- the end of that, for the vertices as points: 2, and where there are operations 5
+unfoldable pub moveRefusal : List TransformOp → ℕ → Bool → List Vec3 → Refusal
+moveRefusal ops count degrees ps =
+    cond (not (opsAnglesWithin degrees (take count ops))) AngleTooLarge
+    (cond (eqb count 0) Accepted
+    (cond (every vFinite (map (transformPoint (folded degrees (take count ops))) ps)) Accepted PointNotFinite))
 
 -- `transform`; no operations leave the mesh untouched
 unfoldable pub transformOf : List TransformOp → ℕ → Bool → State → Outcome

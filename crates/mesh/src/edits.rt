@@ -34,8 +34,8 @@ pub fn append(
     if !refusals::accepted(refusal) {
         return Edited { refusal, mesh };
     }
-    moves::copy(vertices, 3 * n, other_vertices, 3 * more_n);
-    moves::copy_up(triangles, 3 * k, other_triangles, 3 * more_k, n as u32);
+    writes::copy(vertices, 3 * n, other_vertices, 3 * more_n);
+    writes::copy_up(triangles, 3 * k, other_triangles, 3 * more_k, n as u32);
     Edited {
         refusal,
         mesh: TriMesh {
@@ -54,7 +54,7 @@ pub fn flip(mesh: TriMesh, vertices: &[f64], triangles: &mut [u32]) -> Edited
     if !refusals::accepted(refusal) {
         return Edited { refusal, mesh };
     }
-    moves::turn_all(triangles, k);
+    writes::turn_all(triangles, k);
     Edited { refusal, mesh }
 }
 
@@ -81,7 +81,7 @@ pub fn transform(
     let a = transform::fold(ops, op_count, degrees);
     moves::move_finite(vertices, n, a);
     if matrix::determinant(a) < 0.0 {
-        moves::turn_all(triangles, k);
+        writes::turn_all(triangles, k);
         return Edited { refusal, mesh };
     }
     Edited { refusal, mesh }

@@ -1,7 +1,11 @@
 // Which refusal a call answers, in document 01's order. Nothing is written here.
 ghost use mathlib.Core.Path.{_≡_};
+ghost use Prim.Native.Nat.{_*_};
+ghost use lib.ListN.{take};
+ghost use Rattle.trimesh.specs.Slices.{points};
+ghost use Rattle.moves.specs.Affine.{Tested};
 ghost use Rattle.mesh.specs.State.{state, checkOf, isAccepted};
-ghost use Rattle.mesh.specs.Edits.{appendRefusal, transformRefusal};
+ghost use Rattle.mesh.specs.Edits.{appendRefusal, moveRefusal, transformRefusal};
 use crate::TriMesh;
 use crate::checks;
 use refusal::Refusal;
@@ -72,6 +76,30 @@ pub fn append_refusal(
     Refusal::Accepted
 }
 
+// What is left of a transform's refusals after 8, 4 and 1: 2, and where there are operations 5.
+fn move_refusal(
+    vertices: &[f64],
+    n: usize,
+    small: bool,
+    ops: [TransformOp; 16],
+    op_count: usize,
+    degrees: bool,
+) -> Refusal
+    requires { ⌜ Tested (now vertices) n small ⌝ }
+    ensures { λ r. ⌜ r ≡ moveRefusal ops «op_count» degrees (points (take (3 * n) (now (vertices .entry)))) ⌝ }
+{
+    if !opcheck::ops_angles_within(ops, op_count, degrees) {
+        return Refusal::AngleTooLarge;
+    }
+    if op_count == 0 {
+        return Refusal::Accepted;
+    }
+    if !moves::keep_finite(vertices, n, transform::fold(ops, op_count, degrees), small) {
+        return Refusal::PointNotFinite;
+    }
+    Refusal::Accepted
+}
+
 pub fn transform_refusal(
     mesh: TriMesh,
     vertices: &[f64],
@@ -89,20 +117,12 @@ pub fn transform_refusal(
     if !opcheck::op_count_within(op_count) {
         return Refusal::BadList;
     }
-    if !slices::all_finite(vertices, 3 * n) {
+    let small = bounded::all_within(vertices, 3 * n);
+    if !bounded::all_finite(vertices, 3 * n, small) {
         return Refusal::NotFinite;
     }
     if !opcheck::ops_finite(ops, op_count) {
         return Refusal::NotFinite;
     }
-    if !opcheck::ops_angles_within(ops, op_count, degrees) {
-        return Refusal::AngleTooLarge;
-    }
-    if op_count == 0 {
-        return Refusal::Accepted;
-    }
-    if !moves::keep_finite(vertices, n, transform::fold(ops, op_count, degrees)) {
-        return Refusal::PointNotFinite;
-    }
-    Refusal::Accepted
+    move_refusal(vertices, n, small, ops, op_count, degrees)
 }

@@ -1,3 +1,3 @@
 -- Laws that the proofs of `moves` share.
-pub mod Copies
 pub mod AffineLaws
+pub mod BoundedLaws

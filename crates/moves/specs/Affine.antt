@@ -1,8 +1,8 @@
 -- A matrix that ends with the row 0 0 0 1 moves a finite point without a division. Definitions only.
 use mathlib.Core.Path.{_≡_}
-use mathlib.Core.Bool.{true}
+use mathlib.Core.Bool.{Bool, true}
 use mathlib.Core.List.{List}
-use Prim.Native.Nat.{ℕ, _*_, _≤_}
+use Prim.Native.Nat.{ℕ, _*_, _≤_, _<_}
 use lib.ListN.{length, take}
 use lib.Dec.{T}
 use lib.Ieee.{Float}
@@ -13,6 +13,7 @@ use Rattle.matrix.specs.declared.Mat4.{Mat4}
 use Rattle.math.specs.Vec.{one, new}
 use Rattle.matrix.specs.Mat.{entry, rowOf, along}
 use Rattle.slices.specs.Every.{every}
+use Rattle.bounded.specs.Bounded.{within}
 
 -- the last row is 0 0 0 1; either zero will do
 pub record Affine (a : Mat4) : Type 0 where
@@ -35,3 +36,17 @@ pub record FiniteVertices (vs : List Float) (n : ℕ) : Type 0 where
 pub record Movable (vs : List Float) (n : ℕ) (a : Mat4) : Type 0 where
   pub vertices : FiniteVertices vs n
   pub affine : Affine a
+
+-- the entries of the first three rows lie within the bounds
+abbrev pub RowsWithin : Mat4 → Type 0
+RowsWithin a = (i j : ℕ) → i < 3 → j < 4 → T (within (entry a i j))
+
+-- an affine matrix whose other rows lie within the bounds
+pub record BoundedMatrix (a : Mat4) : Type 0 where
+  pub affine : Affine a
+  pub rows : RowsWithin a
+
+-- n finite vertices in the slice; where `small` is true, they lie within the bounds
+pub record Tested (vs : List Float) (n : ℕ) (small : Bool) : Type 0 where
+  pub vertices : FiniteVertices vs n
+  pub bounded : small ≡ true → every within (take (3 * n) vs) ≡ true

@@ -8,8 +8,9 @@ ghost use Rattle.matrix.specs.Mat.{transformPoint};
 ghost use Rattle.trimesh.specs.Slices.{points};
 ghost use Rattle.slices.specs.Every.{every};
 ghost use Rattle.triples.specs.Triples.{eachTo, movedTriple};
-ghost use Rattle.moves.specs.Affine.{FiniteVertices};
+ghost use Rattle.moves.specs.Affine.{FiniteVertices, Tested};
 use crate::affine;
+use crate::bounds;
 use matrix::Mat4;
 use triples::put_vertex;
 use triples::vertex;
@@ -41,11 +42,15 @@ fn move_divided(vertices: &mut [f64], n: usize, a: Mat4)
     }
 }
 
-// Whether the first n vertices, which are finite, are so after the matrix.
-pub fn keep_finite(vertices: &[f64], n: usize, a: Mat4) -> bool
-    requires { ⌜ FiniteVertices (now vertices) n ⌝ }
+// Whether the first n vertices, which are finite, are so after the matrix. None is computed where `small` says that they
+// lie within the bounds and the matrix is bounded too.
+pub fn keep_finite(vertices: &[f64], n: usize, a: Mat4, small: bool) -> bool
+    requires { ⌜ Tested (now vertices) n small ⌝ }
     ensures { λ r. ⌜ r ≡ every vFinite (map (transformPoint a) (points (take (3 * n) (now (vertices .entry))))) ⌝ }
 {
+    if small & bounds::is_bounded(a) {
+        return true;
+    }
     if affine::is_affine(a) {
         return affine::stay_finite(vertices, n, a);
     }
@@ -69,8 +74,11 @@ pub fn stay_finite(vertices: &[f64], n: usize, a: Mat4) -> bool
     requires { ⌜ 3 * n ≤ length (now vertices) ⌝ }
     ensures { λ r. ⌜ r ≡ every vFinite (map (transformPoint a) (points (take (3 * n) (now (vertices .entry))))) ⌝ }
 {
+    if bounded::all_within(vertices, 3 * n) {
+        return keep_finite(vertices, n, a, true);
+    }
     if slices::all_finite(vertices, 3 * n) {
-        return keep_finite(vertices, n, a);
+        return keep_finite(vertices, n, a, false);
     }
     stay_finite_divided(vertices, n, a)
 }

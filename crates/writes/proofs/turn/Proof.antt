@@ -1,11 +1,11 @@
--- `moves::writes::turn` meets its contract: the first number is stored as it is. Assumes nothing.
+-- `writes::turn` meets its contract: the first number is stored as it is. Assumes nothing.
 use denote.Ref.{now}
 use lib.ListN.{length-set}
 use Rattle.triples.proofs.Each.{put-two}
 use borrow.Author.Needs.{needs}
 use native.Mathlib.Omega.{arith}
-use Rattle.moves.proofs.writes.turn.Statement.{statement}
-use Rattle.moves.proofs.writes.turn.Tie as tie
+use Rattle.writes.proofs.turn.Statement.{statement}
+use Rattle.writes.proofs.turn.Tie as tie
 
 mul-at : tie.Need-mul-at
 mul-at c = search needs

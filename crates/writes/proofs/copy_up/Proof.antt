@@ -1,14 +1,14 @@
--- `moves::writes::copy_up` meets its contract. Assumes nothing.
+-- `writes::copy_up` meets its contract. Assumes nothing.
 use denote.Ref.{now}
 use mathlib.Core.Path.{_≡_, refl, sym, ap, _∙_}
 use mathlib.Core.List.{map}
 use Prim.Native.Nat.{ℕ, _≤_, _<_, _-_, _+_}
 use lib.ListN.{length, length-map}
 use lib.Seq.{paste, paste-zero, length-paste}
-use Rattle.moves.proofs.Copies.{paste-map-turn, paste-end}
+use Rattle.writes.proofs.Copies.{paste-map-turn, paste-end}
 use native.Mathlib.Omega.{arith}
-use Rattle.moves.proofs.writes.copy_up.Statement.{statement}
-use Rattle.moves.proofs.writes.copy_up.Tie as tie
+use Rattle.writes.proofs.copy_up.Statement.{statement}
+use Rattle.writes.proofs.copy_up.Tie as tie
 
 abbrev Inv-loop : tie.InvT-loop
 Inv-loop out₀ at from count n i₀ out i = (i ≤ count) × (length out ≡ length out₀) × (out ≡ paste out₀ at (map (λ (j : ℕ). j + n) from) i)

@@ -1,4 +1,4 @@
--- `moves::writes::copy` meets its contract. Assumes nothing.
+-- `writes::copy` meets its contract. Assumes nothing.
 use denote.Ref.{now}
 use mathlib.Core.Path.{_≡_, refl, sym, ap, _∙_}
 use Prim.Native.Nat.{_≤_, _<_, _-_, _+_}
@@ -6,10 +6,10 @@ use native.Mathlib.Numerals.{add-one}
 use lib.ListN.{length, getD, set}
 use lib.Seq.{paste, paste-zero, paste-suc, length-paste}
 use lib.Ieee.{nan}
-use Rattle.moves.proofs.Copies.{paste-turn, paste-end}
+use Rattle.writes.proofs.Copies.{paste-turn, paste-end}
 use native.Mathlib.Omega.{arith}
-use Rattle.moves.proofs.writes.copy.Statement.{statement}
-use Rattle.moves.proofs.writes.copy.Tie as tie
+use Rattle.writes.proofs.copy.Statement.{statement}
+use Rattle.writes.proofs.copy.Tie as tie
 
 abbrev Inv-loop : tie.InvT-loop
 Inv-loop out₀ at from count i₀ out i = (i ≤ count) × (length out ≡ length out₀) × (out ≡ paste out₀ at from i)

@@ -1,4 +1,4 @@
-// The loops that write: copies, and edits of each triangle or vertex in place.
+// The loops that write triangles, and copies into a slice: turned triangles, floats and numbers at a place.
 ghost use mathlib.Core.Path.{_≡_};
 ghost use mathlib.Core.List.{map};
 ghost use Prim.Native.Nat.{ℕ, _+_, _*_, _^_, _≤_, _<_};

@@ -1,4 +1,4 @@
--- `moves::writes::turn_all` meets its contract: the triangles before i are turned. Assumes nothing.
+-- `writes::turn_all` meets its contract: the triangles before i are turned. Assumes nothing.
 use denote.Ref.{now}
 use mathlib.Core.Path.{_≡_, refl, ap, _∙_}
 use Prim.Native.Nat.{_≤_, _<_, _-_, _+_, _*_}
@@ -7,8 +7,8 @@ use Rattle.balance.specs.Soup.{flip as flipTri}
 use Rattle.triples.specs.Triples.{eachTo}
 use Rattle.triples.proofs.Each.{each-none, length-each, each-turn, each-end}
 use native.Mathlib.Omega.{arith}
-use Rattle.moves.proofs.writes.turn_all.Statement.{statement}
-use Rattle.moves.proofs.writes.turn_all.Tie as tie
+use Rattle.writes.proofs.turn_all.Statement.{statement}
+use Rattle.writes.proofs.turn_all.Tie as tie
 
 abbrev Inv-loop : tie.InvT-loop
 Inv-loop triangles₀ count i₀ triangles i = (i ≤ count) × (length triangles ≡ length triangles₀) × (triangles ≡ eachTo flipTri i triangles₀)
