@@ -11,7 +11,7 @@ use borrow.Author.Tests.{ltb-true, ltb-false, lt-ltb, le-ltb, not-false}
 use Rattle.slices.specs.Every.{wholePlaces, every}
 use Rattle.mesh.specs.State.{State, badMesh, notFinite, Sound}
 use Rattle.bounded.specs.Bounded.{within}
-use Rattle.moves.specs.Affine.{FiniteVertices, Tested}
+use Rattle.affine.specs.Affine.{FiniteVertices, Tested}
 use Rattle.slices.proofs.Next.{every-at}
 
 pub neither : (a b : Bool) → (a || b) ≡ false → (a ≡ false) × (b ≡ false)

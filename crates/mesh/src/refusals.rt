@@ -3,7 +3,7 @@ ghost use mathlib.Core.Path.{_≡_};
 ghost use Prim.Native.Nat.{_*_};
 ghost use lib.ListN.{take};
 ghost use Rattle.trimesh.specs.Slices.{points};
-ghost use Rattle.moves.specs.Affine.{Tested};
+ghost use Rattle.affine.specs.Affine.{Tested};
 ghost use Rattle.mesh.specs.State.{state, checkOf, isAccepted};
 ghost use Rattle.mesh.specs.Edits.{appendRefusal, moveRefusal, transformRefusal};
 use crate::TriMesh;
