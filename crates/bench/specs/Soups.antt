@@ -14,7 +14,7 @@ use Rattle.balance.specs.Grid.{upto}
 use Rattle.trimesh.specs.Mesh.{fromParts}
 use Rattle.soups.specs.Grid.{Soup}
 use Rattle.shape.specs.Drawing.{pick}
-use Rattle.mesh.specs.State.{state, stored}
+use Rattle.meshcheck.specs.State.{state, stored}
 use Rattle.outcome.specs.Solid.{partsFinite}
 use Rattle.outcome.specs.Outcome.{shortWork, tooFewPlaces}
 use Rattle.bench.specs.Answers.{at, counts}

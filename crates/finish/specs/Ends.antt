@@ -17,9 +17,9 @@ use Rattle.trimesh.specs.Edits.{transform}
 use Rattle.trimesh.specs.Closed.{AllThere}
 use Rattle.shape.specs.declared.Shape.{Shape}
 use Rattle.shape.specs.declared.Shape.the-variants.{Box, MultiBox, Sphere, SphericalShell, Cylinder, CylindricalShell, Polygon, LinPoly, RotPoly, Wire}
-use Rattle.mesh.specs.declared.TriMesh.{TriMesh}
+use Rattle.meshcheck.specs.declared.TriMesh.{TriMesh}
 use Rattle.slices.specs.Every.{every}
-use Rattle.mesh.specs.State.{State, meshOf, Sound}
+use Rattle.meshcheck.specs.State.{State, meshOf, Sound}
 use Rattle.outcome.specs.Solid.{outward}
 use Rattle.outcome.specs.Outcome.{Outcome, acceptedAs, refusedAs}
 use Rattle.outcome.specs.declared.Tessellated.{Tessellated}

@@ -2,7 +2,7 @@
 ghost use mathlib.Core.Path.{_≡_};
 ghost use lib.ListN.{length};
 ghost use Rattle.trimesh.specs.Edits.{transform};
-ghost use Rattle.mesh.specs.State.{state, meshOf, stored, Sound};
+ghost use Rattle.meshcheck.specs.State.{state, meshOf, stored, Sound};
 ghost use Rattle.outcome.specs.Gives.{Gives};
 ghost use Rattle.finish.specs.Ends.{movedAs, placedAs, turned, Whole};
 use crate::answers;

@@ -1,7 +1,7 @@
 // The end of the case RotPoly: `if m.signed_volume() < 0.0 { m.flip(); }`.
 ghost use mathlib.Core.Path.{_≡_};
 ghost use lib.ListN.{length};
-ghost use Rattle.mesh.specs.State.{state, meshOf, stored, Sound};
+ghost use Rattle.meshcheck.specs.State.{state, meshOf, stored, Sound};
 ghost use Rattle.outcome.specs.Solid.{outward};
 ghost use Rattle.finish.specs.Ends.{isRotPoly};
 use mesh::TriMesh;

@@ -5,7 +5,7 @@ use lib.ListN.{length}
 use mathlib.Core.Bool.{Bool}
 use Rattle.trimesh.specs.Mesh.{Mesh}
 use Rattle.outcome.specs.Solid.{outward}
-use Rattle.mesh.specs.State.{state, meshOf}
+use Rattle.meshcheck.specs.State.{state, meshOf}
 use Rattle.finish.specs.Ends.{turned, placedAs}
 use Rattle.finish.proofs.Ending.{gives-as}
 use Rattle.finish.proofs.Lying.{stored-whole, mesh-is}

@@ -1,18 +1,18 @@
--- `mesh::refusals::append_refusal` meets its contract: the checks in their order. Assumes nothing.
+-- `meshcheck::refusals::append_refusal` meets its contract: the checks in their order. Assumes nothing.
 use denote.Ref.{now}
 use mathlib.Core.Path.{_≡_, sym, _∙_}
 use mathlib.Core.Bool.{true, false}
 use Prim.Native.Nat.{_+_, _≤_, _<_}
 use lib.ListN.{length}
 use Rattle.slices.specs.Every.{wholePlaces}
-use Rattle.mesh.specs.State.{state, badMesh, notFinite}
-use Rattle.mesh.proofs.Sound.{sound, vertices-fit, triangles-fit, places-limit}
-use Rattle.mesh.proofs.Outcomes.{or-first, or-second, or-neither, finite-test, append-bad, append-not-finite, append-no-room, append-accepted}
-use Rattle.mesh.proofs.Outcomes.{no-vertex-room, no-triangle-room, room}
+use Rattle.meshcheck.specs.State.{state, badMesh, notFinite}
+use Rattle.meshcheck.proofs.Sound.{sound, vertices-fit, triangles-fit, places-limit}
+use Rattle.meshcheck.proofs.Tests.{or-first, or-second, or-neither, finite-test, append-bad, append-not-finite, append-no-room, append-accepted}
+use Rattle.meshcheck.proofs.Tests.{no-vertex-room, no-triangle-room, room}
 use borrow.Author.Needs.{needs}
 use native.Mathlib.Omega.{arith}
-use Rattle.mesh.proofs.refusals.append_refusal.Statement.{statement}
-use Rattle.mesh.proofs.refusals.append_refusal.Tie as tie
+use Rattle.meshcheck.proofs.refusals.append_refusal.Statement.{statement}
+use Rattle.meshcheck.proofs.refusals.append_refusal.Tie as tie
 
 bad-mesh-requires : tie.Need-bad-mesh-requires
 bad-mesh-requires c κs = search needs

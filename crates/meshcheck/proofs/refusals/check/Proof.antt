@@ -1,14 +1,14 @@
--- `mesh::refusals::check` meets its contract: the checks in their order. Assumes nothing.
+-- `meshcheck::refusals::check` meets its contract: the checks in their order. Assumes nothing.
 use denote.Ref.{now}
 use mathlib.Core.Path.{_≡_, sym, _∙_}
 use mathlib.Core.Bool.{true, false}
-use Rattle.mesh.specs.State.{state, badMesh}
-use Rattle.mesh.proofs.Sound.{sound}
-use Rattle.mesh.proofs.Outcomes.{finite-test, check-bad, check-not-finite, check-accepted}
+use Rattle.meshcheck.specs.State.{state, badMesh}
+use Rattle.meshcheck.proofs.Sound.{sound}
+use Rattle.meshcheck.proofs.Tests.{finite-test, check-bad, check-not-finite, check-accepted}
 use borrow.Author.Needs.{needs}
 use native.Mathlib.Omega.{arith}
-use Rattle.mesh.proofs.refusals.check.Statement.{statement}
-use Rattle.mesh.proofs.refusals.check.Tie as tie
+use Rattle.meshcheck.proofs.refusals.check.Statement.{statement}
+use Rattle.meshcheck.proofs.refusals.check.Tie as tie
 
 bad-mesh-requires : tie.Need-bad-mesh-requires
 bad-mesh-requires c κs = search needs

@@ -9,7 +9,7 @@ use lib.Dec.{ltb}
 use lib.Ieee.Scale.{finite}
 use borrow.Author.Tests.{ltb-true, ltb-false, lt-ltb, le-ltb, not-false}
 use Rattle.slices.specs.Every.{wholePlaces, every}
-use Rattle.mesh.specs.State.{State, badMesh, notFinite, Sound}
+use Rattle.meshcheck.specs.State.{State, badMesh, notFinite, Sound}
 use Rattle.bounded.specs.Bounded.{within}
 use Rattle.affine.specs.Affine.{FiniteVertices, Tested}
 use Rattle.slices.proofs.Next.{every-at}

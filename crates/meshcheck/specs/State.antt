@@ -13,8 +13,7 @@ use Rattle.trimesh.specs.Mesh.{Mesh}
 use Rattle.trimesh.specs.Slices.{flatV, points}
 use Rattle.refusal.specs.declared.Refusal.{Refusal}
 use Rattle.refusal.specs.declared.Refusal.the-variants.{Accepted, NotFinite, AngleTooLarge, TooManySegments, BadList, PointNotFinite, ShortWork, NoRoom, BadMesh}
-use Rattle.mesh.specs.declared.TriMesh.{TriMesh}
-use Rattle.mesh.specs.declared.Edited.{Edited}
+use Rattle.meshcheck.specs.declared.TriMesh.{TriMesh}
 
 -- the record and the slices as a call finds or leaves them
 pub record State : Type 0 where
@@ -56,11 +55,6 @@ pub record Sound (s : State) : Type 0 where
   pub triangles : 3 * s .mesh .triangles ≤ length (s .triangles)
   pub below : (i : ℕ) → i < 3 * s .mesh .triangles → getD (s .triangles) i 0 < s .mesh .vertices
 
--- what a call answers, and the state that it leaves
-pub record Outcome : Type 0 where
-  pub refusal : Refusal
-  pub state : State
-
 -- no refusal
 abbrev pub isAccepted : Refusal → Bool
 isAccepted Accepted = true
@@ -73,17 +67,6 @@ isAccepted ShortWork = false
 isAccepted NoRoom = false
 isAccepted BadMesh = false
 
--- an edit from s to t: a refusal changes nothing
-unfoldable pub edited : Refusal → State → State → Outcome
-edited r s t = record { refusal = r; state = cond (isAccepted r) t s }
-
 -- what every mesh call checks first: 8, then 1
 unfoldable pub checkOf : State → Refusal
 checkOf s = cond (badMesh s) BadMesh (cond (notFinite s) NotFinite Accepted)
-
--- the answer and the slices of a call are those of an outcome
-pub record Gives (o : Outcome) (r : Edited) (vs : List Float) (ts : List ℕ) : Type 0 where
-  pub refusal : r .refusal ≡ o .refusal
-  pub mesh : r .mesh ≡ o .state .mesh
-  pub vertices : vs ≡ o .state .vertices
-  pub triangles : ts ≡ o .state .triangles

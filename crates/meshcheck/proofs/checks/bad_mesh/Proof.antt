@@ -1,15 +1,15 @@
--- `mesh::checks::bad_mesh` meets its contract: the three tests in their order. Assumes nothing.
+-- `meshcheck::checks::bad_mesh` meets its contract: the three tests in their order. Assumes nothing.
 use denote.Ref.{now}
 use mathlib.Core.Path.{_≡_, sym, ap, _∙_, subst}
 use Prim.Native.Nat.{ℕ, _*_, _≤_, _<_}
 use lib.ListN.{length}
 use Rattle.slices.specs.Every.{wholePlaces}
-use Rattle.mesh.specs.State.{state}
-use Rattle.mesh.proofs.Sound.{bad-vertices, bad-triangles, bad-numbers, places-three, places-limit}
+use Rattle.meshcheck.specs.State.{state}
+use Rattle.meshcheck.proofs.Sound.{bad-vertices, bad-triangles, bad-numbers, places-three, places-limit}
 use borrow.Author.Needs.{needs}
 use native.Mathlib.Omega.{arith}
-use Rattle.mesh.proofs.checks.bad_mesh.Statement.{statement}
-use Rattle.mesh.proofs.checks.bad_mesh.Tie as tie
+use Rattle.meshcheck.proofs.checks.bad_mesh.Statement.{statement}
+use Rattle.meshcheck.proofs.checks.bad_mesh.Tie as tie
 
 whole-places-requires : tie.Need-whole-places-requires
 whole-places-requires c κs = search needs

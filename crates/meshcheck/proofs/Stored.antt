@@ -16,8 +16,8 @@ use Rattle.trimesh.specs.Mesh.{Mesh, append, flip}
 use Rattle.trimesh.specs.Edits.{moved}
 use Rattle.trimesh.specs.Slices.{flatV, points, triOf, vecOf}
 use Rattle.trimesh.specs.SliceLaws.{flat-tris, flat-map, length-tris, points-tris, flatV-flat, flatV-append, flatV-points, length-points}
-use Rattle.mesh.specs.declared.TriMesh.{TriMesh}
-use Rattle.mesh.specs.State.{State, state, meshOf, stored, Sound}
+use Rattle.meshcheck.specs.declared.TriMesh.{TriMesh}
+use Rattle.meshcheck.specs.State.{State, state, meshOf, stored, Sound}
 use Rattle.triples.specs.Triples.{eachTo, movedTriple}
 
 abbrev counts : ℕ → ℕ → TriMesh

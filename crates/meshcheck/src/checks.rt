@@ -1,6 +1,6 @@
 // What every mesh call checks: refusal 8 of document 01.
 ghost use mathlib.Core.Path.{_≡_};
-ghost use Rattle.mesh.specs.State.{state, badMesh};
+ghost use Rattle.meshcheck.specs.State.{state, badMesh};
 use crate::TriMesh;
 
 // 8: a count beyond its slice or above 4,294,967,295, or a number at or above the vertex count.

@@ -1,17 +1,17 @@
--- `mesh::refusals::transform_refusal` meets its contract: the checks in their order. Assumes nothing.
+-- `meshcheck::refusals::transform_refusal` meets its contract: the checks in their order. Assumes nothing.
 use denote.Ref.{now}
 use mathlib.Core.Path.{_≡_, sym, ap, _∙_}
 use mathlib.Core.Bool.{Bool, true, false, not}
 use lib.ListN.{take}
 use borrow.Author.Tests.{not-true, not-false}
 use Rattle.transform.specs.Checks.{opsFinite}
-use Rattle.mesh.specs.State.{state, badMesh, notFinite}
-use Rattle.mesh.proofs.Sound.{sound, tested}
-use Rattle.mesh.proofs.Outcomes.{or-first, or-second, or-neither, finite-test, transform-bad, transform-long, transform-not-finite, transform-rest}
+use Rattle.meshcheck.specs.State.{state, badMesh, notFinite}
+use Rattle.meshcheck.proofs.Sound.{sound, tested}
+use Rattle.meshcheck.proofs.Tests.{or-first, or-second, or-neither, finite-test, transform-bad, transform-long, transform-not-finite, transform-rest}
 use borrow.Author.Needs.{needs}
 use native.Mathlib.Omega.{arith}
-use Rattle.mesh.proofs.refusals.transform_refusal.Statement.{statement}
-use Rattle.mesh.proofs.refusals.transform_refusal.Tie as tie
+use Rattle.meshcheck.proofs.refusals.transform_refusal.Statement.{statement}
+use Rattle.meshcheck.proofs.refusals.transform_refusal.Tie as tie
 
 bad-mesh-requires : tie.Need-bad-mesh-requires
 bad-mesh-requires c κs = search needs

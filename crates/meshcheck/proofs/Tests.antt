@@ -1,4 +1,4 @@
--- The outcome of each call by the tests in their order. Assumes nothing.
+-- Which refusal a call answers, by the tests in their order. Assumes nothing.
 use mathlib.Core.Path.{_≡_, refl, sym, ap, _∙_}
 use mathlib.Core.Bool.{Bool, true, false, not, _||_, cond}
 use mathlib.Core.List.{List, map}
@@ -22,38 +22,9 @@ use Rattle.trimesh.specs.Slices.{points}
 use Rattle.refusal.specs.declared.Refusal.{Refusal}
 use Rattle.refusal.specs.declared.Refusal.the-variants.{Accepted, NotFinite, AngleTooLarge, BadList, PointNotFinite, NoRoom, BadMesh}
 use Rattle.slices.specs.Every.{wholePlaces, every}
-use Rattle.mesh.specs.State.{State, meshOf, badMesh, notFinite, checkOf, isAccepted, edited, Gives, Sound}
-use Rattle.mesh.specs.Edits.{noRoom, appendRefusal, transformed, moveRefusal, transformRefusal}
-use Rattle.mesh.proofs.Stored.{appended-vertices, appended-triangles}
-
--- ---- an edit
-module _ (q : Refusal) (s t : State) (r : Refusal) (e : r ≡ q) where
-  kept : isAccepted r ≡ false → edited q s t .state ≡ s
-  unfolding edited
-  kept h = ap {B = State} (λ (b : Bool). cond b t s) (sym (ap {B = Bool} isAccepted e) ∙ h)
-
-  done : isAccepted r ≡ true → edited q s t .state ≡ t
-  unfolding edited
-  done h = ap {B = State} (λ (b : Bool). cond b t s) (sym (ap {B = Bool} isAccepted e) ∙ h)
-
-  pub gives-kept : isAccepted r ≡ false → Gives (edited q s t) (record { refusal = r; mesh = s .mesh }) (s .vertices) (s .triangles)
-  unfolding edited
-  gives-kept h = record {
-    refusal = e;
-    mesh = sym (λ j. kept h j .mesh);
-    vertices = sym (λ j. kept h j .vertices);
-    triangles = sym (λ j. kept h j .triangles);
-  }
-
-  pub gives-done : (u : State) (vs : List Float) (ts : List ℕ) → isAccepted r ≡ true → t ≡ u → vs ≡ u .vertices → ts ≡ u .triangles
-      → Gives (edited q s t) (record { refusal = r; mesh = u .mesh }) vs ts
-  unfolding edited
-  gives-done u vs ts h w v x = record {
-    refusal = e;
-    mesh = sym (λ j. (done h ∙ w) j .mesh);
-    vertices = v ∙ sym (λ j. (done h ∙ w) j .vertices);
-    triangles = x ∙ sym (λ j. (done h ∙ w) j .triangles);
-  }
+use Rattle.meshcheck.specs.State.{State, meshOf, badMesh, notFinite, checkOf, Sound}
+use Rattle.meshcheck.specs.Refusals.{noRoom, appendRefusal, transformed, moveRefusal, transformRefusal}
+use Rattle.meshcheck.proofs.Stored.{appended-vertices, appended-triangles}
 
 -- ---- tests
 pub or-first : (a b : Bool) → a ≡ true → (a || b) ≡ true

@@ -10,7 +10,7 @@ use Rattle.balance.specs.Buffer.{flat, tris, tris-flat}
 use Rattle.trimesh.specs.Mesh.{Mesh}
 use Rattle.trimesh.specs.Slices.{flatV, points}
 use Rattle.trimesh.specs.SliceLaws.{points-flatV, take-flat, take-flatV}
-use Rattle.mesh.specs.State.{State, meshOf, stored}
+use Rattle.meshcheck.specs.State.{State, meshOf, stored}
 
 pub mesh-stored : (m : Mesh) (s : State) → meshOf (stored m s) ≡ m
 unfolding meshOf stored
