@@ -11,8 +11,8 @@ use Rattle.refusal.specs.declared.Refusal.{Refusal}
 use Rattle.trimesh.specs.Mesh.{Mesh}
 use Rattle.trimesh.specs.Slices.{flatV}
 use Rattle.trimesh.specs.SliceLaws.{take-flat, take-flatV}
-use Rattle.mesh.specs.declared.TriMesh.{TriMesh}
-use Rattle.mesh.specs.State.{State, state, stored}
+use Rattle.meshcheck.specs.declared.TriMesh.{TriMesh}
+use Rattle.meshcheck.specs.State.{State, state, stored}
 use Rattle.outcome.specs.Outcome.{Outcome, refusedAs, acceptedAs}
 use Rattle.outcome.specs.declared.Tessellated.{Tessellated}
 use Rattle.outcome.specs.Gives.{Gives}

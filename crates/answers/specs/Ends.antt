@@ -5,7 +5,7 @@ use Prim.Native.Nat.{ℕ, _*_}
 use lib.Ieee.{Float, binary64, ofBits}
 use Rattle.refusal.specs.declared.Refusal.the-variants.{Accepted}
 use Rattle.slices.specs.Cleared.{clearedFrom}
-use Rattle.mesh.specs.declared.TriMesh.{TriMesh}
+use Rattle.meshcheck.specs.declared.TriMesh.{TriMesh}
 use Rattle.outcome.specs.declared.Tessellated.{Tessellated}
 
 -- the first n vertex places and k triangle places stay, zeros stand after them and in the work slice

@@ -5,7 +5,7 @@ use Prim.Native.Nat.{ℕ}
 use lib.Ieee.{Float}
 use Rattle.refusal.specs.Number.{numberOf}
 use Rattle.mesh.specs.declared.Edited.{Edited}
-use Rattle.mesh.specs.State as Edit
+use Rattle.mesh.specs.Outcome as Edit
 use Rattle.outcome.specs.Outcome.{Outcome}
 use Rattle.outcome.specs.declared.Tessellated.{Tessellated}
 use Rattle.outcome.specs.Gives.{Gives}

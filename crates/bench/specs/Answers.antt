@@ -12,8 +12,8 @@ use Rattle.refusal.specs.Number.{numberOf}
 use Rattle.shape.specs.declared.Shape.{Shape}
 use Rattle.shape.specs.declared.OwnSystem.the-variants.{Inherited}
 use Rattle.shape.specs.declared.CoordSystem.the-variants.{Cartesian}
-use Rattle.mesh.specs.declared.TriMesh.{TriMesh}
-use Rattle.mesh.specs.State as Edit
+use Rattle.meshcheck.specs.declared.TriMesh.{TriMesh}
+use Rattle.mesh.specs.Outcome as Edit
 use Rattle.outcome.specs.Outcome.{Outcome, tessellateOf}
 use Rattle.outcome.specs.Gives.{job}
 

@@ -1,7 +1,7 @@
 // The mesh calls. The counts of a mesh that is edited are given and answered through the same references.
 ghost use mathlib.Core.Path.{_≡_};
 ghost use mathlib.Core.Bool.{false};
-ghost use Rattle.mesh.specs.State.{state};
+ghost use Rattle.meshcheck.specs.State.{state};
 ghost use Rattle.mesh.specs.Measures.{areaOf, signedVolumeOf};
 ghost use Rattle.mesh.specs.Edits.{appendOf, flipOf, transformOf};
 ghost use Rattle.bench.specs.Answers.{counts, Leaves, at, turnThenMove};

@@ -18,7 +18,7 @@ use Rattle.trimesh.specs.Slices.{points}
 use Rattle.trimesh.specs.SliceLaws.{points-flatV, take-flat, take-flatV}
 use Rattle.shape.specs.Drawing.{pick}
 use Rattle.shape.specs.DrawingLaws.{AcceptedDrawing, accepted}
-use Rattle.mesh.specs.State.{state, meshOf}
+use Rattle.meshcheck.specs.State.{state, meshOf}
 use Rattle.outcome.specs.Solid.{partsFinite}
 use Rattle.outcome.specs.Outcome.{Job, Outcome, jobParts, finalMesh, weldedMesh, refusedAs, acceptedAs, tessellateOf}
 use Rattle.outcome.specs.Outcome.{shortWork, jobRefusal, badSoup, tooFewPlaces, badVertex, isAccepted, orElse, refusalOf}

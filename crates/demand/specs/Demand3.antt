@@ -21,7 +21,7 @@ use Rattle.soups.proofs.PartsBalanced.{EachPart}
 use Rattle.shape.specs.declared.Shape.{Shape}
 use Rattle.shape.specs.declared.Shape.the-variants.{Box, MultiBox, Sphere, SphericalShell, Cylinder, CylindricalShell, Polygon, LinPoly, RotPoly, Wire}
 use Rattle.shape.specs.Drawing.{cylindrical, shapeCs}
-use Rattle.mesh.specs.State.{meshOf}
+use Rattle.meshcheck.specs.State.{meshOf}
 use Rattle.mesh.specs.Lists.{Call, after, AllBring, KeptByLists, kept-by-lists}
 use Rattle.outcome.specs.Solid.{outward, solidMesh}
 use Rattle.outcome.specs.Outcome.{Job, jobParts, weldedMesh, finalMesh}

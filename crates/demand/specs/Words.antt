@@ -21,7 +21,7 @@ use Rattle.soups.proofs.Points.{FitsV}
 use Rattle.soups.proofs.PartsBalanced.{FitsAll}
 use Rattle.shape.specs.declared.Shape.{Shape}
 use Rattle.shape.specs.declared.Shape.the-variants.{Box, MultiBox, Sphere, SphericalShell, Cylinder, CylindricalShell, Polygon, LinPoly, RotPoly, Wire}
-use Rattle.mesh.specs.State.{State, state, meshOf}
+use Rattle.meshcheck.specs.State.{State, state, meshOf}
 use Rattle.outcome.specs.Outcome.{Job, tessellateOf}
 
 -- ---- accepted, and the mesh

@@ -13,7 +13,7 @@ use Rattle.weld.specs.declared.Welder.{Welder}
 use Rattle.shape.specs.declared.CoordSystem.{CoordSystem}
 use Rattle.shape.specs.Drawing.{cylindrical, shapeCs}
 use Rattle.shape.specs.DrawingLaws.{accepted}
-use Rattle.mesh.specs.State.{state, meshOf, stored}
+use Rattle.meshcheck.specs.State.{state, meshOf, stored}
 use Rattle.outcome.specs.Solid.{partsOf}
 use Rattle.outcome.specs.Outcome.{Job, Outcome, jobParts, weldedMesh, jobRefusal, badSoup, tooFewPlaces, refusedAs, tessellateOf}
 use Rattle.finish.specs.Ends.{isRotPoly, turned, placedAs, Whole}

@@ -25,7 +25,7 @@ use Rattle.weld.specs.declared.Welder.{Welder}
 use Rattle.weld.specs.Rep.{Held, held, placesOf, Ready, Holds, Over, Rep, Begun}
 use Rattle.weld.specs.Runs.{Fits, holds-fits}
 use Rattle.slices.specs.Every.{wholePlaces}
-use Rattle.mesh.specs.State.{state, stored}
+use Rattle.meshcheck.specs.State.{state, stored}
 use Rattle.outcome.specs.Solid.{partsFinite}
 use Rattle.outcome.specs.Outcome.{tooFewPlaces, shortWork}
 use Rattle.draw.specs.Steps.{countsOf, Drawable, Welded}

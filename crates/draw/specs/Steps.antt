@@ -12,9 +12,9 @@ use Rattle.weld.specs.declared.Welder.{Welder}
 use Rattle.shape.specs.declared.Shape.{Shape}
 use Rattle.shape.specs.declared.TessellationOptions.{TessellationOptions}
 use Rattle.shape.specs.Drawing.{badList, itemFloats}
-use Rattle.mesh.specs.declared.TriMesh.{TriMesh}
+use Rattle.meshcheck.specs.declared.TriMesh.{TriMesh}
 use Rattle.slices.specs.Every.{every}
-use Rattle.mesh.specs.State.{state, stored}
+use Rattle.meshcheck.specs.State.{state, stored}
 use Rattle.outcome.specs.Solid.{partsFinite}
 use Rattle.outcome.specs.Outcome.{Job, tooFewPlaces, shortWork, jobRefusal}
 

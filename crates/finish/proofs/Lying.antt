@@ -17,10 +17,10 @@ use Rattle.trimesh.specs.Closed.{allOf, below, AllThere, Proper}
 use Rattle.trimesh.specs.ProperLaws.{first, second, append-all-there}
 use Rattle.trimesh.specs.Welded.{fromSoup-proper}
 use Rattle.soups.specs.Grid.{Soup}
-use Rattle.mesh.specs.declared.TriMesh.{TriMesh}
-use Rattle.mesh.specs.State.{State, state, meshOf, stored, Sound}
-use Rattle.mesh.specs.StateLaws.{mesh-stored}
-use Rattle.mesh.proofs.Stored.{mesh-vertices, mesh-triangles, floats, numbers}
+use Rattle.meshcheck.specs.declared.TriMesh.{TriMesh}
+use Rattle.meshcheck.specs.State.{State, state, meshOf, stored, Sound}
+use Rattle.meshcheck.specs.StateLaws.{mesh-stored}
+use Rattle.meshcheck.proofs.Stored.{mesh-vertices, mesh-triangles, floats, numbers}
 use Rattle.finish.specs.Ends.{Whole}
 
 -- the fronts of the slices are m

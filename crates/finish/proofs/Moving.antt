@@ -18,10 +18,10 @@ use Rattle.trimesh.specs.Edits.{transform}
 use Rattle.trimesh.specs.Slices.{points}
 use Rattle.refusal.specs.declared.Refusal.the-variants.{PointNotFinite}
 use Rattle.slices.specs.Every.{every}
-use Rattle.mesh.specs.State.{State, state, meshOf, stored, Sound}
+use Rattle.meshcheck.specs.State.{State, state, meshOf, stored, Sound}
 use Rattle.triples.specs.Triples.{eachTo, movedTriple}
-use Rattle.mesh.proofs.Stored.{stored-moved, stored-mirrored}
-use Rattle.mesh.proofs.Outcomes.{transform-mirrors, transform-moves, transform-vertices}
+use Rattle.meshcheck.proofs.Stored.{stored-moved, stored-mirrored}
+use Rattle.meshcheck.proofs.Tests.{transform-mirrors, transform-moves, transform-vertices}
 use Rattle.outcome.specs.Outcome.{Outcome, refusedAs, acceptedAs}
 use Rattle.finish.specs.Ends.{movedAs, placedAs}
 

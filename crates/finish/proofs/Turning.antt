@@ -14,9 +14,9 @@ use Rattle.trimesh.specs.Measures.{signedVolume, sumOf, volumeTerm}
 use Rattle.soups.specs.Grid.{Soup}
 use Rattle.shape.specs.declared.Shape.{Shape}
 use Rattle.shape.specs.declared.Shape.the-variants.{Box, MultiBox, Sphere, SphericalShell, Cylinder, CylindricalShell, Polygon, LinPoly, RotPoly, Wire}
-use Rattle.mesh.specs.State.{State, state, meshOf, stored, Sound}
+use Rattle.meshcheck.specs.State.{State, state, meshOf, stored, Sound}
 use Rattle.triples.specs.Triples.{eachTo, cornersOf}
-use Rattle.mesh.proofs.Stored.{stored-flip}
+use Rattle.meshcheck.proofs.Stored.{stored-flip}
 use Rattle.mesh.proofs.Readings.{sum-is}
 use Rattle.measure.proofs.Terms.{volume-is}
 use Rattle.outcome.specs.Solid.{outward, solidMesh}

@@ -15,7 +15,7 @@ use Rattle.trimesh.specs.Closed.{AllThere}
 use Rattle.shape.specs.declared.Shape.{Shape}
 use Rattle.shape.specs.declared.Shape.the-variants.{Box, MultiBox, Sphere, SphericalShell, Cylinder, CylindricalShell, Polygon, LinPoly, RotPoly, Wire}
 use Rattle.slices.specs.Every.{every}
-use Rattle.mesh.specs.State.{State, meshOf, Sound}
+use Rattle.meshcheck.specs.State.{State, meshOf, Sound}
 use Rattle.outcome.specs.Solid.{outward}
 use Rattle.outcome.specs.Outcome.{Outcome, acceptedAs, refusedAs}
 

@@ -2,7 +2,7 @@
 ghost use mathlib.Core.Path.{_≡_};
 ghost use lib.ListN.{length};
 ghost use Rattle.trimesh.specs.Edits.{transform};
-ghost use Rattle.mesh.specs.State.{state, meshOf, stored, Sound};
+ghost use Rattle.meshcheck.specs.State.{state, meshOf, stored, Sound};
 ghost use Rattle.outcome.specs.Gives.{Gives};
 ghost use Rattle.finish.specs.Ends.{movedAs, placedAs, turned, Whole};
 use crate::turn;
@@ -22,7 +22,7 @@ fn move_mesh(counts: TriMesh, vertices: &mut [f64], triangles: &mut [u32], a: Ma
     let k = counts.triangles;
     moves::move_all(vertices, n, a);
     if matrix::determinant(a) < 0.0 {
-        moves::turn_all(triangles, k);
+        writes::turn_all(triangles, k);
         return;
     }
 }

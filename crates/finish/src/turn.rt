@@ -1,7 +1,7 @@
 // The end of the case RotPoly: `if m.signed_volume() < 0.0 { m.flip(); }`.
 ghost use mathlib.Core.Path.{_≡_};
 ghost use lib.ListN.{length};
-ghost use Rattle.mesh.specs.State.{state, meshOf, stored, Sound};
+ghost use Rattle.meshcheck.specs.State.{state, meshOf, stored, Sound};
 ghost use Rattle.outcome.specs.Solid.{outward};
 ghost use Rattle.finish.specs.Ends.{isRotPoly, turned};
 use mesh::TriMesh;
@@ -34,7 +34,7 @@ fn turn_outward(counts: TriMesh, vertices: &[f64], triangles: &mut [u32])
     let k = counts.triangles;
     let volume = measure::volume_sum(vertices, triangles, k) / 6.0;
     if volume < 0.0 {
-        moves::turn_all(triangles, k);
+        writes::turn_all(triangles, k);
         return;
     }
 }

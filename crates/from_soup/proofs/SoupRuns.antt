@@ -17,7 +17,7 @@ use Rattle.outcome.specs.Solid.{partsFinite}
 use Rattle.outcome.specs.Outcome.{Outcome, shortWork, tooFewPlaces, isAccepted, acceptedAs, refusedAs}
 use Rattle.outcome.specs.declared.Tessellated.{Tessellated}
 use Rattle.outcome.specs.Gives.{Gives}
-use Rattle.mesh.specs.State.{state, stored, Sound}
+use Rattle.meshcheck.specs.State.{state, stored, Sound}
 use Rattle.answers.specs.Ends.{Closes}
 use Rattle.answers.proofs.Ending.{gives-as, refused-lengths, accepted-lengths, closes-gives}
 use Rattle.finish.proofs.Lying.{stored-whole, fromParts-there}

@@ -14,11 +14,11 @@ use Rattle.trimesh.specs.Mesh.{append}
 use Rattle.refusal.specs.declared.Refusal.{Refusal}
 use Rattle.refusal.specs.declared.Refusal.the-variants.{Accepted, NotFinite, AngleTooLarge, BadList, PointNotFinite, NoRoom, BadMesh}
 use Rattle.slices.specs.Every.{wholePlaces, every}
-use Rattle.mesh.specs.State.{State, meshOf, badMesh, notFinite, checkOf, isAccepted, Sound}
-use Rattle.moves.specs.Affine.{FiniteVertices}
-use Rattle.mesh.specs.Edits.{noRoom, appendRefusal, transformed, transformRefusal}
-use Rattle.mesh.proofs.Sound.{sound, finite-vertices, places-three, places-limit, neither}
-use Rattle.mesh.proofs.Stored.{appended-vertices, appended-triangles}
+use Rattle.meshcheck.specs.State.{State, meshOf, badMesh, notFinite, checkOf, isAccepted, Sound}
+use Rattle.affine.specs.Affine.{FiniteVertices}
+use Rattle.meshcheck.specs.Refusals.{noRoom, appendRefusal, transformed, transformRefusal}
+use Rattle.meshcheck.proofs.Sound.{sound, finite-vertices, places-three, places-limit, neither}
+use Rattle.meshcheck.proofs.Stored.{appended-vertices, appended-triangles}
 
 -- the first test of a call did not refuse
 first : (a : Bool) (q : Refusal) → isAccepted (cond a BadMesh q) ≡ true → a ≡ false

@@ -1,6 +1,4 @@
 -- Laws that several proofs of this crate use.
-pub mod Sound
-pub mod Stored
-pub mod Outcomes
+pub mod Given
 pub mod Accepted
 pub mod Readings

@@ -20,7 +20,7 @@ use Rattle.trimesh.specs.Measures.{triangleSoup, sumOf, including, plusZeroBox,
 use Rattle.refusal.specs.declared.Refusal.{Refusal}
 use Rattle.mesh.specs.declared.Measured.{Measured}
 use Rattle.mesh.specs.declared.Boxed.{Boxed}
-use Rattle.mesh.specs.State.{State, meshOf, checkOf, isAccepted, Sound}
+use Rattle.meshcheck.specs.State.{State, meshOf, checkOf, isAccepted, Sound}
 use Rattle.triples.specs.Triples.{tripleAt, vertexAt, cornersOf, AllWithin}
 use Rattle.mesh.specs.Measures.{measureOf, boundingBoxOf}
 use Rattle.slices.proofs.Next.{getD-next}

@@ -1,31 +1,13 @@
--- `append`, `flip` and `transform` of a mesh in lent slices, with the refusals in document 01's order: 8, 4, 1, 2, 7, 5, each where it applies. Definitions only.
-use mathlib.Core.Bool.{Bool, not, _||_, cond}
+-- `append`, `flip` and `transform` of a mesh in lent slices. Definitions only.
+use mathlib.Core.Bool.{Bool, cond}
 use mathlib.Core.List.{List}
 use Prim.Native.Nat.{ℕ}
-use lib.ListN.{length, take}
-use lib.Dec.{ltb, eqb}
-use Rattle.math.specs.Vec.{vFinite}
+use lib.Dec.{eqb}
 use Rattle.transform.specs.declared.TransformOp.{TransformOp}
-use Rattle.transform.specs.Ops.{folded}
-use Rattle.transform.specs.Checks.{opCountWithin, opsFinite, opsAnglesWithin}
-use Rattle.trimesh.specs.Mesh.{Mesh, append, flip}
-use Rattle.trimesh.specs.Edits.{transform}
-use Rattle.refusal.specs.declared.Refusal.{Refusal}
-use Rattle.refusal.specs.declared.Refusal.the-variants.{Accepted, NotFinite, AngleTooLarge, BadList, PointNotFinite, NoRoom, BadMesh}
-use Rattle.slices.specs.Every.{placesOf, every}
-use Rattle.mesh.specs.State.{State, meshOf, stored, badMesh, notFinite, checkOf, Outcome, edited}
-
--- 7: a mesh has more vertices or triangles than whole places, or more than 4,294,967,295 of either
-unfoldable pub noRoom : Mesh → State → Bool
-noRoom m s = ltb (placesOf (s .vertices)) (length (m .vertices)) || ltb (placesOf (s .triangles)) (length (m .triangles))
-
--- 8 on either mesh, 1 on either, 7
-unfoldable pub appendRefusal : State → State → Refusal
-unfolding noRoom
-appendRefusal s o =
-    cond (badMesh s || badMesh o) BadMesh
-    (cond (notFinite s || notFinite o) NotFinite
-    (cond (noRoom (append (meshOf s) (meshOf o)) s) NoRoom Accepted))
+use Rattle.trimesh.specs.Mesh.{append, flip}
+use Rattle.meshcheck.specs.State.{State, meshOf, stored, checkOf}
+use Rattle.meshcheck.specs.Refusals.{appendRefusal, transformed, transformRefusal}
+use Rattle.mesh.specs.Outcome.{Outcome, edited}
 
 -- `append` of the second mesh to the first
 unfoldable pub appendOf : State → State → Outcome
@@ -36,21 +18,6 @@ appendOf s o = edited (appendRefusal s o) s (stored (append (meshOf s) (meshOf o
 unfoldable pub flipOf : State → Outcome
 unfolding edited
 flipOf s = edited (checkOf s) s (stored (flip (meshOf s)) s)
-
--- a mesh under the first `count` operations, their angles in degrees or in radians
-unfoldable pub transformed : List TransformOp → ℕ → Bool → Mesh → Mesh
-transformed ops count degrees m = transform (folded degrees (take count ops)) m
-
--- 8, 4, 1 on the vertices or on the operations, 2, and where there are operations 5
-unfoldable pub transformRefusal : List TransformOp → ℕ → Bool → State → Refusal
-unfolding every transformed
-transformRefusal ops count degrees s =
-    cond (badMesh s) BadMesh
-    (cond (not (opCountWithin count)) BadList
-    (cond (notFinite s || not (opsFinite (take count ops))) NotFinite
-    (cond (not (opsAnglesWithin degrees (take count ops))) AngleTooLarge
-    (cond (eqb count 0) Accepted
-    (cond (every vFinite (transformed ops count degrees (meshOf s) .vertices)) Accepted PointNotFinite)))))
 
 -- `transform`; no operations leave the mesh untouched
 unfoldable pub transformOf : List TransformOp → ℕ → Bool → State → Outcome

@@ -1,6 +1,5 @@
 -- The definitions that the contracts of `mesh` cite, and the theorem about lists of calls.
-pub mod State
+pub mod Outcome
 pub mod Edits
 pub mod Measures
-pub mod StateLaws
 pub mod Lists

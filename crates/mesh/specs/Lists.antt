@@ -16,9 +16,11 @@ use Rattle.trimesh.specs.ClosedLaws.{append-closed, flip-closed, transform-clos
 use Rattle.trimesh.specs.ProperLaws.{append-none-twice, flip-none-twice, transform-none-twice, append-all-there, flip-all-there, transform-all-there}
 use Rattle.refusal.specs.declared.Refusal.{Refusal}
 use Rattle.refusal.specs.declared.Refusal.the-variants.{Accepted, NotFinite, AngleTooLarge, TooManySegments, BadList, PointNotFinite, ShortWork, NoRoom, BadMesh}
-use Rattle.mesh.specs.State.{State, meshOf, stored, checkOf, isAccepted, Outcome, edited}
-use Rattle.mesh.specs.StateLaws.{mesh-stored}
-use Rattle.mesh.specs.Edits.{appendRefusal, appendOf, flipOf, transformed, transformRefusal, transformOf}
+use Rattle.meshcheck.specs.State.{State, meshOf, stored, checkOf, isAccepted}
+use Rattle.mesh.specs.Outcome.{Outcome, edited}
+use Rattle.meshcheck.specs.StateLaws.{mesh-stored}
+use Rattle.meshcheck.specs.Refusals.{appendRefusal, transformed, transformRefusal}
+use Rattle.mesh.specs.Edits.{appendOf, flipOf, transformOf}
 
 -- ---- the statement
 -- one call: the mesh to append, or the operations, their count and the degrees mark

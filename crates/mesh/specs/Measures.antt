@@ -6,7 +6,7 @@ use Rattle.trimesh.specs.Measures.{signedVolume, area, enclosedVolume, bounding
 use Rattle.measure.specs.ZeroBox.{zeroBox}
 use Rattle.mesh.specs.declared.Measured.{Measured}
 use Rattle.mesh.specs.declared.Boxed.{Boxed}
-use Rattle.mesh.specs.State.{State, meshOf, checkOf, isAccepted}
+use Rattle.meshcheck.specs.State.{State, meshOf, checkOf, isAccepted}
 
 -- an area or volume is answered as its bits; a NaN's are 7FF8000000000000
 unfoldable pub measureOf : (Mesh → Float) → State → Measured

@@ -1,9 +1,9 @@
 // The edits of a mesh.
-ghost use Rattle.mesh.specs.State.{state, Gives};
+ghost use Rattle.meshcheck.specs.State.{state};
+ghost use Rattle.mesh.specs.Outcome.{Gives};
 ghost use Rattle.mesh.specs.Edits.{appendOf, flipOf, transformOf};
 use crate::Edited;
-use crate::TriMesh;
-use crate::refusals;
+use meshcheck::TriMesh;
 use transform::TransformOp;
 
 // Appends the other mesh, which lies in other slices: its vertices follow, and its numbers go up by the vertex count.
@@ -23,7 +23,7 @@ pub fn append(
     let k = mesh.triangles;
     let more_n = other.vertices;
     let more_k = other.triangles;
-    let refusal = refusals::append_refusal(
+    let refusal = meshcheck::append_refusal(
         mesh,
         vertices,
         triangles,
@@ -31,11 +31,11 @@ pub fn append(
         other_vertices,
         other_triangles,
     );
-    if !refusals::accepted(refusal) {
+    if !meshcheck::accepted(refusal) {
         return Edited { refusal, mesh };
     }
-    moves::copy(vertices, 3 * n, other_vertices, 3 * more_n);
-    moves::copy_up(triangles, 3 * k, other_triangles, 3 * more_k, n as u32);
+    writes::copy(vertices, 3 * n, other_vertices, 3 * more_n);
+    writes::copy_up(triangles, 3 * k, other_triangles, 3 * more_k, n as u32);
     Edited {
         refusal,
         mesh: TriMesh {
@@ -50,11 +50,11 @@ pub fn flip(mesh: TriMesh, vertices: &[f64], triangles: &mut [u32]) -> Edited
     ensures { λ r. ⌜ Gives (flipOf (state mesh (now (vertices .entry)) (now (triangles .entry)))) r (now (vertices .entry)) (now (triangles .exit)) ⌝ }
 {
     let k = mesh.triangles;
-    let refusal = refusals::check(mesh, vertices, triangles);
-    if !refusals::accepted(refusal) {
+    let refusal = meshcheck::check(mesh, vertices, triangles);
+    if !meshcheck::accepted(refusal) {
         return Edited { refusal, mesh };
     }
-    moves::turn_all(triangles, k);
+    writes::turn_all(triangles, k);
     Edited { refusal, mesh }
 }
 
@@ -71,8 +71,8 @@ pub fn transform(
 {
     let n = mesh.vertices;
     let k = mesh.triangles;
-    let refusal = refusals::transform_refusal(mesh, vertices, triangles, ops, op_count, degrees);
-    if !refusals::accepted(refusal) {
+    let refusal = meshcheck::transform_refusal(mesh, vertices, triangles, ops, op_count, degrees);
+    if !meshcheck::accepted(refusal) {
         return Edited { refusal, mesh };
     }
     if op_count == 0 {
@@ -81,7 +81,7 @@ pub fn transform(
     let a = transform::fold(ops, op_count, degrees);
     moves::move_finite(vertices, n, a);
     if matrix::determinant(a) < 0.0 {
-        moves::turn_all(triangles, k);
+        writes::turn_all(triangles, k);
         return Edited { refusal, mesh };
     }
     Edited { refusal, mesh }

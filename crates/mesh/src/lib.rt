@@ -1,9 +1,7 @@
 // A mesh in lent slices: three floats a vertex, three numbers a triangle, and the two counts by value.
 // The calls edit it or measure it. Each checks the mesh first, and a refusal changes nothing.
-mod checks;
 mod edits;
 mod measures;
-mod refusals;
 
 pub use edits::append;
 pub use edits::flip;
@@ -13,13 +11,8 @@ pub use measures::area;
 pub use measures::bounding_box;
 pub use measures::enclosed_volume;
 pub use measures::signed_volume;
+pub use meshcheck::TriMesh;
 use refusal::Refusal;
-
-// The counts of a mesh.
-pub struct TriMesh {
-    pub vertices: usize,
-    pub triangles: usize,
-}
 
 // What an edit answers: refused or accepted, and the counts after it.
 pub struct Edited {

@@ -1,19 +1,18 @@
 // The measures of a mesh. They change nothing.
 ghost use mathlib.Core.Path.{_≡_};
-ghost use Rattle.mesh.specs.State.{state};
+ghost use Rattle.meshcheck.specs.State.{state};
 ghost use Rattle.mesh.specs.Measures.{signedVolumeOf, areaOf, enclosedVolumeOf, boundingBoxOf};
 use crate::Boxed;
 use crate::Measured;
-use crate::TriMesh;
-use crate::refusals;
+use meshcheck::TriMesh;
 
 // The volume that the triangles enclose, positive where they are counter-clockwise seen from outside.
 pub fn signed_volume(mesh: TriMesh, vertices: &[f64], triangles: &[u32]) -> Measured
     ensures { λ r. ⌜ r ≡ signedVolumeOf (state mesh (now (vertices .entry)) (now (triangles .entry))) ⌝ }
 {
     let k = mesh.triangles;
-    let refusal = refusals::check(mesh, vertices, triangles);
-    if !refusals::accepted(refusal) {
+    let refusal = meshcheck::check(mesh, vertices, triangles);
+    if !meshcheck::accepted(refusal) {
         return Measured { refusal, bits: 0 };
     }
     let x = measure::volume_sum(vertices, triangles, k) / 6.0;
@@ -28,8 +27,8 @@ pub fn enclosed_volume(mesh: TriMesh, vertices: &[f64], triangles: &[u32]) -> Me
     ensures { λ r. ⌜ r ≡ enclosedVolumeOf (state mesh (now (vertices .entry)) (now (triangles .entry))) ⌝ }
 {
     let k = mesh.triangles;
-    let refusal = refusals::check(mesh, vertices, triangles);
-    if !refusals::accepted(refusal) {
+    let refusal = meshcheck::check(mesh, vertices, triangles);
+    if !meshcheck::accepted(refusal) {
         return Measured { refusal, bits: 0 };
     }
     let x = ieee::abs(measure::volume_sum(vertices, triangles, k) / 6.0);
@@ -44,8 +43,8 @@ pub fn area(mesh: TriMesh, vertices: &[f64], triangles: &[u32]) -> Measured
     ensures { λ r. ⌜ r ≡ areaOf (state mesh (now (vertices .entry)) (now (triangles .entry))) ⌝ }
 {
     let k = mesh.triangles;
-    let refusal = refusals::check(mesh, vertices, triangles);
-    if !refusals::accepted(refusal) {
+    let refusal = meshcheck::check(mesh, vertices, triangles);
+    if !meshcheck::accepted(refusal) {
         return Measured { refusal, bits: 0 };
     }
     let x = measure::area_sum(vertices, triangles, k);
@@ -60,8 +59,8 @@ pub fn bounding_box(mesh: TriMesh, vertices: &[f64], triangles: &[u32]) -> Boxed
     ensures { λ r. ⌜ r ≡ boundingBoxOf (state mesh (now (vertices .entry)) (now (triangles .entry))) ⌝ }
 {
     let n = mesh.vertices;
-    let refusal = refusals::check(mesh, vertices, triangles);
-    if !refusals::accepted(refusal) {
+    let refusal = meshcheck::check(mesh, vertices, triangles);
+    if !meshcheck::accepted(refusal) {
         return Boxed {
             refusal,
             bounds: measure::zero_box(),

@@ -31,7 +31,7 @@ use Rattle.shape.specs.declared.OwnSystem.{OwnSystem}
 use Rattle.shape.specs.declared.CoordSystem.{CoordSystem}
 use Rattle.shape.specs.declared.TessellationOptions.{TessellationOptions}
 use Rattle.shape.specs.Drawing.{cylindrical, shapeCs, pick, drawingRefusal}
-use Rattle.mesh.specs.declared.TriMesh.{TriMesh}
+use Rattle.meshcheck.specs.declared.TriMesh.{TriMesh}
 use Rattle.slices.specs.Every.{wholePlaces, every}
 use Rattle.outcome.specs.Solid.{partsOf, partsFinite, solidMesh}
 

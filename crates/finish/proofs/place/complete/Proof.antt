@@ -2,7 +2,7 @@
 use mathlib.Core.Path.{_≡_}
 use denote.Ref.{now}
 use lib.ListN.{length}
-use Rattle.mesh.specs.State.{state, meshOf}
+use Rattle.meshcheck.specs.State.{state, meshOf}
 use Rattle.finish.specs.Ends.{turned, placedAs}
 use Rattle.answers.proofs.Ending.{gives-as}
 use Rattle.finish.proofs.Lying.{stored-whole, mesh-is}

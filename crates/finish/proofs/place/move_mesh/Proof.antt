@@ -1,6 +1,6 @@
 -- `finish::place::move_mesh` meets its contract. Assumes nothing.
 use denote.Ref.{now}
-use Rattle.mesh.specs.State.{state}
+use Rattle.meshcheck.specs.State.{state}
 use Rattle.finish.proofs.Moving.{mirrored, only-moved}
 use borrow.Author.Needs.{needs}
 use Rattle.finish.proofs.place.move_mesh.Statement.{statement}

@@ -4,7 +4,7 @@ use denote.Ref.{now}
 use lib.ListN.{length}
 use borrow.Author.Tests.{not-true, not-false}
 use Rattle.trimesh.specs.Edits.{transform}
-use Rattle.mesh.specs.State.{state, meshOf}
+use Rattle.meshcheck.specs.State.{state, meshOf}
 use Rattle.answers.proofs.Ending.{gives-as, accepted-lengths, closes-gives}
 use Rattle.finish.proofs.Moving.{moved-refused, moved-accepted}
 use borrow.Author.Needs.{needs}

@@ -4,7 +4,7 @@ use denote.Ref.{now}
 use lib.ListN.{length}
 use Rattle.outcome.specs.Outcome.{Outcome}
 use Rattle.matrix.specs.declared.Mat4.{Mat4}
-use Rattle.mesh.specs.State.{state, meshOf}
+use Rattle.meshcheck.specs.State.{state, meshOf}
 use Rattle.finish.specs.Ends.{movedAs}
 use Rattle.answers.proofs.Ending.{gives-as, closes-gives}
 use Rattle.finish.proofs.Lying.{stored-self}

@@ -1,6 +1,6 @@
 -- `finish::turn::turn_outward` meets its contract. Assumes nothing.
 use denote.Ref.{now}
-use Rattle.mesh.specs.State.{state}
+use Rattle.meshcheck.specs.State.{state}
 use Rattle.mesh.proofs.Readings.{all-within}
 use Rattle.finish.proofs.Turning.{outward-turned, outward-kept}
 use borrow.Author.Needs.{needs}

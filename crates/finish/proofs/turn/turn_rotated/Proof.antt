@@ -2,7 +2,7 @@
 use mathlib.Core.Path.{_≡_, sym, ap, _∙_}
 use mathlib.Core.Bool.{Bool}
 use denote.Ref.{now}
-use Rattle.mesh.specs.State.{State, state, meshOf, stored}
+use Rattle.meshcheck.specs.State.{State, state, meshOf, stored}
 use Rattle.finish.specs.Ends.{turned}
 use Rattle.finish.proofs.Lying.{stored-self}
 use borrow.Author.Needs.{needs}

@@ -7,11 +7,12 @@ use Prim.Native.Nat.{ℕ, _+_, _*_}
 use lib.Seq.{paste}
 use borrow.Author.Tests.{not-true, not-false}
 use Rattle.trimesh.specs.Mesh.{append}
-use Rattle.mesh.specs.declared.TriMesh.{TriMesh}
-use Rattle.mesh.specs.State.{state, meshOf, stored, isAccepted}
-use Rattle.mesh.specs.Edits.{appendRefusal, appendOf}
-use Rattle.mesh.proofs.Stored.{stored-append}
-use Rattle.mesh.proofs.Outcomes.{gives-kept, gives-done}
+use Rattle.meshcheck.specs.declared.TriMesh.{TriMesh}
+use Rattle.meshcheck.specs.State.{state, meshOf, stored, isAccepted}
+use Rattle.meshcheck.specs.Refusals.{appendRefusal}
+use Rattle.mesh.specs.Edits.{appendOf}
+use Rattle.meshcheck.proofs.Stored.{stored-append}
+use Rattle.mesh.proofs.Given.{gives-kept, gives-done}
 use Rattle.mesh.proofs.Accepted.{appends}
 use borrow.Author.Needs.{needs}
 use native.Mathlib.Omega.{arith}

@@ -5,11 +5,11 @@ use mathlib.Core.Bool.{true, false}
 use borrow.Author.Tests.{not-true, not-false}
 use Rattle.balance.specs.Soup.{flip as flipTri}
 use Rattle.trimesh.specs.Mesh.{flip}
-use Rattle.mesh.specs.State.{state, meshOf, stored, checkOf, isAccepted}
+use Rattle.meshcheck.specs.State.{state, meshOf, stored, checkOf, isAccepted}
 use Rattle.mesh.specs.Edits.{flipOf}
 use Rattle.triples.specs.Triples.{eachTo}
-use Rattle.mesh.proofs.Stored.{stored-flip}
-use Rattle.mesh.proofs.Outcomes.{gives-kept, gives-done}
+use Rattle.meshcheck.proofs.Stored.{stored-flip}
+use Rattle.mesh.proofs.Given.{gives-kept, gives-done}
 use Rattle.mesh.proofs.Accepted.{check-sound}
 use borrow.Author.Needs.{needs}
 use Rattle.mesh.proofs.edits.flip.Statement.{statement}

@@ -12,11 +12,13 @@ use Rattle.matrix.specs.Mat.{determinant}
 use Rattle.transform.specs.Ops.{folded}
 use Rattle.balance.specs.Soup.{flip as flipTri}
 use Rattle.trimesh.specs.Mesh.{Mesh}
-use Rattle.mesh.specs.State.{State, state, meshOf, stored, isAccepted}
-use Rattle.mesh.specs.Edits.{transformed, transformRefusal, transformOf}
+use Rattle.meshcheck.specs.State.{State, state, meshOf, stored, isAccepted}
+use Rattle.meshcheck.specs.Refusals.{transformed, transformRefusal}
+use Rattle.mesh.specs.Edits.{transformOf}
 use Rattle.triples.specs.Triples.{eachTo, movedTriple}
-use Rattle.mesh.proofs.Stored.{stored-moved, stored-mirrored}
-use Rattle.mesh.proofs.Outcomes.{gives-kept, gives-done, transform-mirrors, transform-moves}
+use Rattle.meshcheck.proofs.Stored.{stored-moved, stored-mirrored}
+use Rattle.mesh.proofs.Given.{gives-kept, gives-done}
+use Rattle.meshcheck.proofs.Tests.{transform-mirrors, transform-moves}
 use Rattle.mesh.proofs.Accepted.{transform-sound, transform-finite}
 use borrow.Author.Needs.{needs}
 use Rattle.mesh.proofs.edits.transform.Statement.{statement}

@@ -3,7 +3,7 @@ use denote.Ref.{now}
 use mathlib.Core.Path.{_≡_, sym, _∙_}
 use mathlib.Core.Bool.{true, false}
 use borrow.Author.Tests.{not-true, not-false}
-use Rattle.mesh.specs.State.{state, isAccepted}
+use Rattle.meshcheck.specs.State.{state, isAccepted}
 use Rattle.mesh.proofs.Accepted.{check-sound}
 use Rattle.mesh.proofs.Readings.{box-refused, box-done}
 use borrow.Author.Needs.{needs}

@@ -3,7 +3,7 @@ use denote.Ref.{now}
 use mathlib.Core.Path.{_≡_, sym, ap, _∙_}
 use mathlib.Core.Bool.{true, false}
 use borrow.Author.Tests.{not-true, not-false}
-use Rattle.mesh.specs.State.{state, meshOf, isAccepted}
+use Rattle.meshcheck.specs.State.{state, meshOf, isAccepted}
 use Rattle.mesh.proofs.Accepted.{check-sound}
 use Rattle.mesh.proofs.Readings.{all-within, sum-is, measure-refused, measure-done}
 use lib.Ieee.{binary64, ofBits, div}

@@ -1,0 +1,3 @@
+-- Laws that the proofs of `affine` share.
+pub mod AffineLaws
+pub mod BoundedLaws

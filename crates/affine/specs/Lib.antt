@@ -1,0 +1,2 @@
+-- What the contracts of `affine` cite.
+pub mod Affine

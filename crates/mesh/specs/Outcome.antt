@@ -1,0 +1,25 @@
+-- What an edit of a mesh answers, and the state that it leaves. Definitions only.
+use mathlib.Core.Path.{_≡_}
+use mathlib.Core.Bool.{cond}
+use mathlib.Core.List.{List}
+use Prim.Native.Nat.{ℕ}
+use lib.Ieee.{Float}
+use Rattle.refusal.specs.declared.Refusal.{Refusal}
+use Rattle.meshcheck.specs.State.{State, isAccepted}
+use Rattle.mesh.specs.declared.Edited.{Edited}
+
+-- what a call answers, and the state that it leaves
+pub record Outcome : Type 0 where
+  pub refusal : Refusal
+  pub state : State
+
+-- an edit from s to t: a refusal changes nothing
+unfoldable pub edited : Refusal → State → State → Outcome
+edited r s t = record { refusal = r; state = cond (isAccepted r) t s }
+
+-- the answer and the slices of a call are those of an outcome
+pub record Gives (o : Outcome) (r : Edited) (vs : List Float) (ts : List ℕ) : Type 0 where
+  pub refusal : r .refusal ≡ o .refusal
+  pub mesh : r .mesh ≡ o .state .mesh
+  pub vertices : vs ≡ o .state .vertices
+  pub triangles : ts ≡ o .state .triangles

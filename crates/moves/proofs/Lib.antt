@@ -1,3 +1,0 @@
--- Laws that the proofs of `moves` share.
-pub mod Copies
-pub mod AffineLaws

@@ -1,0 +1,2 @@
+-- Laws that the proofs of `writes` share.
+pub mod Copies
