@@ -41,7 +41,7 @@ pub fn line_of(lo: Vec3, hi: Vec3, n: usize, turns: bool, k: usize) -> Line
 }
 
 // Where a face lies on the axis k.
-fn end_of(lo: Vec3, hi: Vec3, k: usize, side: bool) -> f64
+pub fn end_of(lo: Vec3, hi: Vec3, k: usize, side: bool) -> f64
     ensures { λ r. ⌜ r ≡ cond side (axis hi k) (axis lo k) ⌝ }
 {
     if side {
