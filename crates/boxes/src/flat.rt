@@ -10,6 +10,7 @@ ghost use Rattle.soups.specs.declared.Chart.the-variants.{Cartesian};
 ghost use Rattle.soups.specs.ParamBox as Box;
 ghost use Rattle.soups.specs.ParamBox.{three};
 ghost use Rattle.soups.specs.Surface.{mapped};
+ghost use Rattle.boxes.specs.Box.{faceOf};
 ghost use Rattle.boxes.specs.Flat.{quadOf};
 use crate::faces;
 use math::Vec3;
@@ -81,30 +82,22 @@ fn numbers_from(base: usize, a: usize, b: usize, c: usize, d: usize) -> FourNumb
     }
 }
 
-// The numbers of a face's points in a box whose corners differ: they are numbered from `base` on in the order in which the faces
+// The numbers of the points of face f in a box whose corners differ: they are numbered from `base` on in the order in which the faces
 // show them. The welder tests each.
-fn guesses(base: usize, k: usize, side: bool) -> FourNumbers
+fn guesses(base: usize, f: usize) -> FourNumbers
     requires { ⌜ base < 2 ^ 32 ⌝ }
 {
-    if k == 0 {
-        if side {
-            return numbers_from(base, 4, 5, 6, 7);
-        }
-        return numbers_from(base, 0, 1, 2, 3);
+    match f {
+        0 => numbers_from(base, 0, 1, 2, 3),
+        1 => numbers_from(base, 4, 5, 6, 7),
+        2 => numbers_from(base, 0, 4, 7, 1),
+        3 => numbers_from(base, 3, 2, 6, 5),
+        4 => numbers_from(base, 0, 3, 5, 4),
+        _ => numbers_from(base, 1, 7, 6, 2),
     }
-    if k == 1 {
-        if side {
-            return numbers_from(base, 3, 2, 6, 5);
-        }
-        return numbers_from(base, 0, 4, 7, 1);
-    }
-    if side {
-        return numbers_from(base, 1, 7, 6, 2);
-    }
-    numbers_from(base, 0, 3, 5, 4)
 }
 
-// One face on the axis k.
+// Face f, if it is there.
 fn weld_face(
     vertices: &mut [f64],
     triangles: &mut [u32],
@@ -112,17 +105,19 @@ fn weld_face(
     w: Welder,
     lo: Vec3,
     hi: Vec3,
-    k: usize,
-    side: bool,
+    f: usize,
 ) -> Welder
     requires { ⌜ Ready (held w (now vertices) (now triangles) (now work)) ⌝ }
-    requires { ⌜ k < 3 ⌝ }
-    ensures { λ r. ⌜ Runs (Box.face lo hi (three 1 1 1) (three false false false) (mapped Cartesian) k side)
+    requires { ⌜ f < 6 ⌝ }
+    ensures { λ r. ⌜ Runs (faceOf lo hi (three 1 1 1) (three false false false) (mapped Cartesian) f)
         (held w (now (vertices .entry)) (now (triangles .entry)) (now (work .entry)))
         (held r (now (vertices .exit)) (now (triangles .exit)) (now (work .exit))) ⌝ }
 {
-    let p = face(lo, hi, k, side);
-    let n = guesses(w.base, k, side);
+    if !faces::has_face(lo, hi, false, f) {
+        return w;
+    }
+    let p = face(lo, hi, f / 2, f % 2 == 1);
+    let n = guesses(w.base, f);
     let q = quads::weld_quad(
         vertices,
         triangles,
@@ -140,31 +135,6 @@ fn weld_face(
     q.st
 }
 
-// The faces on the axis k: the high one only where the bounds differ.
-fn weld_faces(
-    vertices: &mut [f64],
-    triangles: &mut [u32],
-    work: &mut [u32],
-    w: Welder,
-    lo: Vec3,
-    hi: Vec3,
-    k: usize,
-) -> Welder
-    requires { ⌜ Ready (held w (now vertices) (now triangles) (now work)) ⌝ }
-    requires { ⌜ k < 3 ⌝ }
-    ensures { λ r. ⌜ Runs (Box.faces lo hi (three 1 1 1) (three false false false) (mapped Cartesian) k)
-        (held w (now (vertices .entry)) (now (triangles .entry)) (now (work .entry)))
-        (held r (now (vertices .exit)) (now (triangles .exit)) (now (work .exit))) ⌝ }
-{
-    let low = weld_face(vertices, triangles, work, w, lo, hi, k, false);
-    let top = math::axis(hi, k);
-    let bottom = math::axis(lo, k);
-    if top == bottom {
-        return low;
-    }
-    weld_face(vertices, triangles, work, low, lo, hi, k, true)
-}
-
 // Soup::param_box with one part on each axis and no map.
 pub fn weld_flat_box(
     vertices: &mut [f64],
@@ -179,7 +149,11 @@ pub fn weld_flat_box(
         (held w (now (vertices .entry)) (now (triangles .entry)) (now (work .entry)))
         (held r (now (vertices .exit)) (now (triangles .exit)) (now (work .exit))) ⌝ }
 {
-    let a = weld_faces(vertices, triangles, work, w, lo, hi, 0);
-    let b = weld_faces(vertices, triangles, work, a, lo, hi, 1);
-    weld_faces(vertices, triangles, work, b, lo, hi, 2)
+    let mut st = w;
+    let mut f = 0;
+    while f < 6 {
+        st = weld_face(vertices, triangles, work, st, lo, hi, f);
+        f += 1;
+    }
+    st
 }
