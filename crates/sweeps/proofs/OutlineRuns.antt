@@ -32,13 +32,14 @@ use Rattle.weld.specs.Rep.{Held, Ready, Runs}
 use Rattle.weld.specs.Runs.{runs-none, runs-then, runs-as}
 use Rattle.soups.specs.declared.Surface.the-variants.{Extruded, Rotated}
 use Rattle.soups.specs.Arc.{arcSegments}
+use Rattle.soups.specs.declared.Surface.{Surface}
 use Rattle.soups.specs.Grid.{Soup, grid}
 use Rattle.soups.specs.Boxes.{isFull}
 use Rattle.soups.specs.Outline.{planePoint, caps, cornerAt, extrudedSides, extrudedFrom, angle, spun, turnedAt, turnedSides, turnedFrom, rotatedFrom}
 use Rattle.soups.specs.Polygons.{capTriangles, extrudedPolygon, radialAxis, swaps, rotpoly}
 use Rattle.soups.specs.Surface.{height, surfaceAt}
 use Rattle.soups.proofs.SurfaceGrids.{extruded-surface, rotated-surface}
-use Rattle.sweeps.specs.Caps.{capOf, capsOf, turnSpan}
+use Rattle.sweeps.specs.Caps.{capOf, capsOf, turnSpan, turnOf}
 use Rattle.sweeps.proofs.Numbers.{BelowAll, caps-below}
 
 -- the cap triangles at the start of the slice that `triangulate_polygon` left
@@ -185,36 +186,37 @@ module _ (a q : ℕ) (p : List Float) (start stop : Float) (segments : ℕ) wher
   rotated-none h R l = runs-as (rotated-is (isFull (absolute spanned)) true (arcSegments segments (turnSpan (isFull (absolute spanned)) spanned)) refl refl (lt-ltb (length p /
       2) 3 l)) (runs-none h R)
 
-  turned-is : (full : Bool) (n : ℕ) (t : Bool) → full ≡ t → turnedSides a q p start spanned full n
-      ++ cond t [] (caps (λ i. turnedAt a q p start spanned full n i 0) (λ i. turnedAt a q p start spanned full n i n) (capTriangles p)) ≡ turnedFrom a q p (capTriangles p) start spanned full n
-  unfolding turnedFrom
-  turned-is full n t e =
-      ap (λ (b : Bool). turnedSides a q p start spanned full n ++ cond b [] (caps (λ i. turnedAt a q p start spanned full n i 0) (λ i. turnedAt a q p start spanned full n i n)
-      (capTriangles p))) (sym e)
-
-  pub rotated-full : (full : Bool) (n : ℕ) (h k : Held) → 3 ≤ length p / 2 → full ≡ isFull (absolute spanned) → n ≡ arcSegments segments (turnSpan full spanned) → full ≡ true
-      → Runs (grid (length p / 2) n true (surfaceAt p (Rotated a q (length p / 2) full start spanned n))) h k → Runs (rotatedFrom a q p (capTriangles p) start stop segments) h k
-  rotated-full full n h k m x y e R =
-      runs-as
-      (sym (rotated-surface p a q start spanned full n) ∙ sym (append-nil (turnedSides a q p start spanned full n)) ∙ turned-is full n true e
-      ∙ rotated-is full false n x y (le-ltb (length p / 2) 3 m)) R
-
   spun-at : (full : Bool) (n i j : ℕ) → i < length p / 2 → surfaceAt p (Rotated a q (length p / 2) full start spanned n) i j ≡ turnedAt a q p start spanned full n i j
   unfolding surfaceAt
   spun-at full n i j h = ap (λ (k : ℕ). spun a q (point p k) (sinCos (angle full start spanned n j))) (mod-eq-of-lt h)
 
-  pub rotated-part : (full : Bool) (n : ℕ) (h k r : Held) → 3 ≤ length p / 2 → full ≡ isFull (absolute spanned) → n ≡ arcSegments segments (turnSpan full spanned) → full ≡ false
-      → Runs (grid (length p / 2) n true (surfaceAt p (Rotated a q (length p / 2) full start spanned n))) h k
-      → Runs (capsOf true (λ i. surfaceAt p (Rotated a q (length p / 2) full start spanned n) i 0) (λ i. surfaceAt p (Rotated a q (length p / 2) full start spanned n) i n) (capTriangles p)) k r
-      → Runs (rotatedFrom a q p (capTriangles p) start stop segments) h r
-  rotated-part full n h k r m x y e R Q =
+  turned-is : (full : Bool) (n : ℕ) → 3 ≤ length p / 2 → turnOf p (Rotated a q (length p / 2) full start spanned n) (length p / 2) n full ≡ turnedFrom a q p (capTriangles p) start spanned full n
+  unfolding turnedFrom
+  turned-is full n m =
       let s : ℕ → ℕ → Vec3 = surfaceAt p (Rotated a q (length p / 2) full start spanned n) in
-      let c : Soup = caps (λ i. turnedAt a q p start spanned full n i 0) (λ i. turnedAt a q p start spanned full n i n) (capTriangles p) in
-      let z : capsOf true (λ i. s i 0) (λ i. s i n) (capTriangles p) ≡ c
-      = both-cong (length p / 2) (λ i. s i 0) (λ i. turnedAt a q p start spanned full n i 0) (λ i. s i n) (λ i. turnedAt a q p start spanned full n i n)
-      (λ i o. spun-at full n i 0 o) (λ i o. spun-at full n i n o) (capTriangles p) (caps-below p m) in
-      runs-as (turned-is full n false e ∙ rotated-is full false n x y (le-ltb (length p / 2) 3 m))
-      (runs-then (turnedSides a q p start spanned full n) c h k r (runs-as (sym (rotated-surface p a q start spanned full n)) R) (runs-as z Q))
+      ap (λ (x : Soup). x ++ cond full [] (capsOf true (λ i. s i 0) (λ i. s i n) (capTriangles p))) (sym (rotated-surface p a q start spanned full n))
+      ∙ ap (λ (x : Soup). turnedSides a q p start spanned full n ++ cond full [] x)
+      (both-cong (length p / 2) (λ i. s i 0) (λ i. turnedAt a q p start spanned full n i 0) (λ i. s i n) (λ i. turnedAt a q p start spanned full n i n)
+      (λ i o. spun-at full n i 0 o) (λ i o. spun-at full n i n o) (capTriangles p) (caps-below p m))
+
+  pub rotated-runs : (full : Bool) (n : ℕ) (h k : Held) → 3 ≤ length p / 2 → full ≡ isFull (absolute spanned) → n ≡ arcSegments segments (turnSpan full spanned)
+      → Runs (turnOf p (Rotated a q (length p / 2) full start spanned n) (length p / 2) n full) h k → Runs (rotatedFrom a q p (capTriangles p) start stop segments) h k
+  rotated-runs full n h k m x y R = runs-as (turned-is full n m ∙ rotated-is full false n x y (le-ltb (length p / 2) 3 m)) R
+
+-- the sides and, where the turn is not full, the ends
+module _ (p : List Float) (s : Surface) (len n : ℕ) (full : Bool) where
+  abbrev sides : Soup
+  sides = grid len n true (surfaceAt p s)
+
+  abbrev ends : Soup
+  ends = capsOf true (λ i. surfaceAt p s i 0) (λ i. surfaceAt p s i n) (capTriangles p)
+
+  pub turn-full : (h k : Held) → full ≡ true → Runs (grid len n true (surfaceAt p s)) h k → Runs (turnOf p s len n full) h k
+  turn-full h k e R = runs-as (sym (append-nil sides) ∙ ap (λ (b : Bool). sides ++ cond b [] ends) (sym e)) R
+
+  pub turn-part : (h k l : Held) → full ≡ false → Runs (grid len n true (surfaceAt p s)) h k
+      → Runs (capsOf true (λ i. surfaceAt p s i 0) (λ i. surfaceAt p s i n) (capTriangles p)) k l → Runs (turnOf p s len n full) h l
+  turn-part h k l e R Q = runs-as (ap (λ (b : Bool). sides ++ cond b [] ends) (sym e)) (runs-then sides ends h k l R Q)
 
 pub rotpoly-runs : (a q normal : ℕ) (swap : Bool) (v p : List Float) (start stop : Float) (segments : ℕ) (h k : Held) → q ≡ radialAxis a normal → swap ≡ swaps a normal
     → p ≡ prepared swap v → Runs (rotatedFrom a q p (capTriangles p) start stop segments) h k → Runs (rotpoly a normal v start stop segments) h k

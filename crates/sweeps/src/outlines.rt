@@ -5,7 +5,7 @@ ghost use lib.ListN.{length};
 ghost use Rattle.weld.specs.Rep.{held, Ready, Runs};
 ghost use Rattle.soups.specs.Outline as Outline;
 ghost use Rattle.soups.specs.Polygons as Polygons;
-ghost use Rattle.sweeps.specs.Caps.{turnSpan};
+ghost use Rattle.sweeps.specs.Caps.{turnSpan, TurnWithin, turnOf};
 use crate::ends;
 use soups::Surface;
 use surfaces::Turns;
@@ -87,6 +87,47 @@ fn turn_span(full: bool, span: f64) -> f64
     if full { TAU } else { span }
 }
 
+// The sides of a rotated outline, and its ends where the turn is not full.
+fn weld_turned(
+    vertices: &mut [f64],
+    triangles: &mut [u32],
+    work: &mut [u32],
+    w: Welder,
+    s: Surface,
+    p: &[f64],
+    rows: &[f64],
+    cols: &[f64],
+    len: usize,
+    n: usize,
+    full: bool,
+) -> Welder
+    requires { ⌜ Ready (held w (now vertices) (now triangles) (now work)) ⌝ }
+    requires { ⌜ TurnWithin (now p) s (now rows) (now cols) len n ⌝ }
+    ensures { λ r. ⌜ Runs (turnOf (now (p .entry)) s len n full)
+        (held w (now (vertices .entry)) (now (triangles .entry)) (now (work .entry)))
+        (held r (now (vertices .exit)) (now (triangles .exit)) (now (work .exit))) ⌝ }
+{
+    let mut numbers = [0usize; 1025];
+    let u = grids::weld_grid(
+        vertices,
+        triangles,
+        work,
+        w,
+        s,
+        p,
+        rows,
+        cols,
+        &mut numbers,
+        len,
+        n,
+        true,
+    );
+    if full {
+        return u;
+    }
+    ends::weld_ends(vertices, triangles, work, u, s, p, rows, cols, true, 0, n)
+}
+
 // rotpoly from the prepared corners on.
 fn weld_rotated_from(
     vertices: &mut [f64],
@@ -124,7 +165,6 @@ fn weld_rotated_from(
     };
     let none = [0.0; 2];
     let mut cols = [0.0; 2050];
-    let mut numbers = [0usize; 1025];
     let t = Turns::Angles {
         full,
         start,
@@ -132,7 +172,7 @@ fn weld_rotated_from(
         n,
     };
     surfaces::fill_turns(t, n, &mut cols);
-    let u = grids::weld_grid(
+    weld_turned(
         vertices,
         triangles,
         work,
@@ -141,15 +181,10 @@ fn weld_rotated_from(
         p,
         &none,
         &cols,
-        &mut numbers,
         len,
         n,
-        true,
-    );
-    if full {
-        return u;
-    }
-    ends::weld_ends(vertices, triangles, work, u, s, p, &none, &cols, true, 0, n)
+        full,
+    )
 }
 
 // Whether the corners are swapped to (radial, axial): unless the plane's first axis is the radial one.
