@@ -1,10 +1,11 @@
 -- The faces of a parameter box of n parts on the middle axis, welded one after the other. Assumes nothing.
 use mathlib.Core.Path.{_≡_, refl, sym, ap, _∙_, subst}
-use mathlib.Core.Bool.{Bool, true, false, cond, not}
-use mathlib.Core.List.{List, [], _∷_, _++_, append-nil}
-use Prim.Native.Nat.{ℕ, zero, suc, _+_, _%_, _≤_, _<_}
+use mathlib.Core.Bool.{Bool, true, false, cond, not, true≢false}
+use mathlib.Core.List.{List, [], _++_, append-nil, append-assoc}
+use Prim.Native.Nat.{ℕ, zero, suc, _+_, _/_, _%_, _≤_, _<_}
 use native.Mathlib.Omega.{arith}
-use lib.Ieee.{Float, eq}
+use borrow.Author.Tests.{eq-eqb, ne-eqb}
+use lib.Ieee.{Float, eq, ne}
 use Rattle.math.specs.declared.Vec3.{Vec3}
 use Rattle.math.specs.Vec.{axis}
 use Rattle.weld.specs.Rep.{Held, Ready, Runs}
@@ -21,7 +22,9 @@ use Rattle.soups.specs.Grid.{Soup, grid}
 use Rattle.soups.specs.ParamBox.{three, face, faces, paramBox}
 use Rattle.soups.specs.Surface.{mapped, lineOf, surfaceAt}
 use Rattle.soups.proofs.SurfaceGrids.{face-surface}
-use Rattle.boxes.specs.Box.{AxisTabled, BoxWithin}
+use Rattle.balance.specs.Grid.{upto}
+use Rattle.balance.specs.Buffer.{upto-more}
+use Rattle.boxes.specs.Box.{AxisTabled, BoxWithin, isHigh, hasFace, faceOf}
 
 -- `three` at the middle axis and at the others
 pub three-middle : {A : Type 0} (a b c : A) (k : ℕ) → k ≡ 1 → b ≡ three a b c k
@@ -60,10 +63,6 @@ chosen b x y r e d = d ∙ ap (λ (t : Bool). cond t x y) (sym e)
 pub other : {A : Type 0} (b : Bool) (x y r : A) → b ≡ false → r ≡ y → r ≡ cond b x y
 other b x y r e d = d ∙ ap (λ (t : Bool). cond t x y) (sym e)
 
--- a comparison of equal floats
-pub tested : (x y a b : Float) (t : Bool) → x ≡ a → y ≡ b → eq x y ≡ t → eq a b ≡ t
-tested x y a b t p q e = ap (λ (z : Float). eq z b) (sym p) ∙ ap (λ (z : Float). eq x z) (sym q) ∙ e
-
 -- places for guesses stay as many
 pub guesses-kept : {lo hi : Vec3} {n : ℕ} {turns : Bool} {chart : Chart} {tab : List Float} {g h : ℕ} → g ≡ h → BoxWithin lo hi n turns chart tab h → BoxWithin lo hi n turns chart tab g
 guesses-kept {lo} {hi} {n} {turns} {chart} {tab} e B = subst (BoxWithin lo hi n turns chart tab) (sym e) B
@@ -98,32 +97,56 @@ module _ (lo hi : Vec3) (n : ℕ) (turns : Bool) (chart : Chart) where
       ∙ ap (λ (y : Float). grid (U .n) (W .n) (not side) (surfaceAt p (Face chart k y U W))) e
       ∙ sym (face-surface p lo hi (three 1 n 1) (three false turns false) chart k side)) R
 
+-- whether a face is there, as the code finds it
+module _ (lo hi : Vec3) (periodic : ℕ → Bool) (f : ℕ) where
+  pub has-none : true ≡ periodic (f / 2) → false ≡ hasFace lo hi periodic f
+  unfolding hasFace
+  has-none p = λ i. cond (p i) false (cond (isHigh f) (not (eq (axis hi (f / 2)) (axis lo (f / 2)))) true)
+
+  pub has-high : (x y : Float) → false ≡ periodic (f / 2) → f % 2 ≡ 1 → x ≡ axis hi (f / 2) → y ≡ axis lo (f / 2) → ne x y ≡ hasFace lo hi periodic f
+  unfolding hasFace ne
+  has-high x y p e ex ey = λ i. cond (p i) false (cond (sym (eq-eqb (f % 2) 1 e) i) (not (eq (ex i) (ey i))) true)
+
+  pub has-low : false ≡ periodic (f / 2) → (f % 2 ≡ 1 → ⊥) → true ≡ hasFace lo hi periodic f
+  unfolding hasFace
+  has-low p e = λ i. cond (p i) false (cond (sym (ne-eqb (f % 2) 1 e) i) (not (eq (axis hi (f / 2)) (axis lo (f / 2)))) true)
+
 module _ (lo hi : Vec3) (divs : ℕ → ℕ) (periodic : ℕ → Bool) (map : Vec3 → Vec3) where
-  faces-are : (k : ℕ) (t e : Bool) → periodic k ≡ t → eq (axis hi k) (axis lo k) ≡ e →
-      faces lo hi divs periodic map k ≡ cond t [] (face lo hi divs periodic map k false ++ cond e [] (face lo hi divs periodic map k true))
-  unfolding faces
-  faces-are k t e p q =
-      ap (λ (b : Bool). cond b [] (face lo hi divs periodic map k false ++ cond (eq (axis hi k) (axis lo k)) [] (face lo hi divs periodic map k true))) p
-      ∙ ap (λ (b : Bool). cond t [] (face lo hi divs periodic map k false ++ cond b [] (face lo hi divs periodic map k true))) q
+  -- a face that is not there, and one that is
+  pub face-gone : (f : ℕ) (b : Bool) (h : Held) → Ready h → not b ≡ true → b ≡ hasFace lo hi periodic f → Runs (faceOf lo hi divs periodic map f) h h
+  unfolding faceOf
+  face-gone f true h R n e = absurd (true≢false (sym n))
+  face-gone f false h R n e = runs-as (ap (λ (b : Bool). cond b (face lo hi divs periodic map (f / 2) (isHigh f)) []) e) (runs-none h R)
 
-  -- no faces on a periodic axis
-  pub faces-none : (k : ℕ) (h : Held) → Ready h → true ≡ periodic k → Runs (faces lo hi divs periodic map k) h h
-  faces-none k h R p = runs-as (sym (faces-are k true (eq (axis hi k) (axis lo k)) (sym p) refl)) (runs-none h R)
+  pub face-there : (f : ℕ) (b : Bool) (h r : Held) → not b ≡ false → b ≡ hasFace lo hi periodic f → Runs (face lo hi divs periodic map (f / 2) (isHigh f)) h r
+      → Runs (faceOf lo hi divs periodic map f) h r
+  unfolding faceOf
+  face-there f true h r n e R = runs-as (ap (λ (b : Bool). cond b (face lo hi divs periodic map (f / 2) (isHigh f)) []) e) R
+  face-there f false h r n e R = absurd (true≢false n)
 
-  -- the low one alone on a flat axis
-  pub faces-low : (k : ℕ) (h r : Held) → false ≡ periodic k → eq (axis hi k) (axis lo k) ≡ true → Runs (face lo hi divs periodic map k false) h r
-      → Runs (faces lo hi divs periodic map k) h r
-  faces-low k h r p q R = runs-as (sym (append-nil (face lo hi divs periodic map k false)) ∙ sym (faces-are k false true (sym p) q)) R
+  -- one more face
+  pub faces-more : (f : ℕ) (h k l : Held) → Runs (upto f (faceOf lo hi divs periodic map)) h k → Runs (faceOf lo hi divs periodic map f) k l
+      → Runs (upto (f + 1) (faceOf lo hi divs periodic map)) h l
+  faces-more f h k l R Q =
+      runs-as (sym (upto-more f (faceOf lo hi divs periodic map))) (runs-then (upto f (faceOf lo hi divs periodic map)) (faceOf lo hi divs periodic map f) h k l R Q)
 
-  -- both
-  pub faces-both : (k : ℕ) (h m r : Held) → false ≡ periodic k → eq (axis hi k) (axis lo k) ≡ false → Runs (face lo hi divs periodic map k false) h m
-      → Runs (face lo hi divs periodic map k true) m r → Runs (faces lo hi divs periodic map k) h r
-  faces-both k h m r p q R Q = runs-as (sym (faces-are k false false (sym p) q)) (runs-then (face lo hi divs periodic map k false) (face lo hi divs periodic map k true) h m r R Q)
+  -- the faces of one axis after others
+  two-faces : (t e : Bool) (xs low high : Soup) →
+      (xs ++ cond (cond t false true) low []) ++ cond (cond t false (not e)) high [] ≡ xs ++ cond t [] (low ++ cond e [] high)
+  two-faces true e xs low high = append-nil (xs ++ [])
+  two-faces false true xs low high = append-assoc xs low []
+  two-faces false false xs low high = append-assoc xs low high
 
-  -- the three axes
-  pub box-runs : (h a b r : Held) → Runs (faces lo hi divs periodic map 0) h a → Runs (faces lo hi divs periodic map 1) a b → Runs (faces lo hi divs periodic map 2) b r
-      → Runs (paramBox lo hi divs periodic map) h r
-  unfolding paramBox
-  box-runs h a b r X Y Z =
-      runs-then (faces lo hi divs periodic map 0 ++ faces lo hi divs periodic map 1) (faces lo hi divs periodic map 2) h b r
-      (runs-then (faces lo hi divs periodic map 0) (faces lo hi divs periodic map 1) h a b X Y) Z
+  -- the six faces are the box
+  six-faces : upto 6 (faceOf lo hi divs periodic map) ≡ paramBox lo hi divs periodic map
+  unfolding paramBox faces faceOf hasFace
+  six-faces =
+      let side : ℕ → Soup = faceOf lo hi divs periodic map in
+      let both : ℕ → Soup = faces lo hi divs periodic map in
+      let e : (k : ℕ) (xs : Soup) → (xs ++ cond (cond (periodic k) false true) (face lo hi divs periodic map k false) [])
+      ++ cond (cond (periodic k) false (not (eq (axis hi k) (axis lo k)))) (face lo hi divs periodic map k true) [] ≡ xs ++ both k =
+      λ k xs. two-faces (periodic k) (eq (axis hi k) (axis lo k)) xs (face lo hi divs periodic map k false) (face lo hi divs periodic map k true) in
+      ap (λ (xs : Soup). (((xs ++ side 2) ++ side 3) ++ side 4) ++ side 5) (e 0 []) ∙ ap (λ (xs : Soup). (xs ++ side 4) ++ side 5) (e 1 (both 0)) ∙ e 2 (both 0 ++ both 1)
+
+  pub box-runs : (f : ℕ) (h r : Held) → f ≡ 6 → Runs (upto f (faceOf lo hi divs periodic map)) h r → Runs (paramBox lo hi divs periodic map) h r
+  box-runs f h r e R = runs-as (ap (λ (n : ℕ). upto n (faceOf lo hi divs periodic map)) e ∙ six-faces) R

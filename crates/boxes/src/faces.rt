@@ -8,7 +8,7 @@ ghost use Rattle.weld.specs.Rep.{held, Ready, Runs};
 ghost use Rattle.soups.specs.ParamBox as Box;
 ghost use Rattle.soups.specs.ParamBox.{three};
 ghost use Rattle.soups.specs.Surface.{mapped, lineOf};
-ghost use Rattle.boxes.specs.Box.{BoxWithin};
+ghost use Rattle.boxes.specs.Box.{BoxWithin, hasFace, faceOf};
 use math::Vec3;
 use soups::Chart;
 use soups::Line;
@@ -41,7 +41,7 @@ pub fn line_of(lo: Vec3, hi: Vec3, n: usize, turns: bool, k: usize) -> Line
 }
 
 // Where a face lies on the axis k.
-fn end_of(lo: Vec3, hi: Vec3, k: usize, side: bool) -> f64
+pub fn end_of(lo: Vec3, hi: Vec3, k: usize, side: bool) -> f64
     ensures { λ r. ⌜ r ≡ cond side (axis hi k) (axis lo k) ⌝ }
 {
     if side {
@@ -51,7 +51,22 @@ fn end_of(lo: Vec3, hi: Vec3, k: usize, side: bool) -> f64
     }
 }
 
-// One face on the axis k: the low one, or where side says so the high one.
+// Whether face f of six is there: 2 * k is the low one of the axis k, 2 * k + 1 the high one. A periodic axis has none, and the high
+// one is there only where the bounds differ.
+pub fn has_face(lo: Vec3, hi: Vec3, turns: bool, f: usize) -> bool
+    ensures { λ r. ⌜ r ≡ hasFace lo hi (three false turns false) f ⌝ }
+{
+    let k = f / 2;
+    if wraps(turns, k) {
+        return false;
+    }
+    if f % 2 == 1 {
+        return math::axis(hi, k) != math::axis(lo, k);
+    }
+    true
+}
+
+// Face f, if it is there.
 fn weld_face(
     vertices: &mut [f64],
     triangles: &mut [u32],
@@ -64,15 +79,19 @@ fn weld_face(
     chart: Chart,
     table: &[f64],
     numbers: &mut [usize],
-    k: usize,
-    side: bool,
+    f: usize,
 ) -> Welder
     requires { ⌜ Ready (held w (now vertices) (now triangles) (now work)) ⌝ }
-    requires { ⌜ (k < 3) × BoxWithin lo hi n turns chart (now table) (length (now numbers)) ⌝ }
-    ensures { λ r. ⌜ Runs (Box.face lo hi (three 1 n 1) (three false turns false) (mapped chart) k side)
+    requires { ⌜ (f < 6) × BoxWithin lo hi n turns chart (now table) (length (now numbers)) ⌝ }
+    ensures { λ r. ⌜ Runs (faceOf lo hi (three 1 n 1) (three false turns false) (mapped chart) f)
         (held w (now (vertices .entry)) (now (triangles .entry)) (now (work .entry)))
         (held r (now (vertices .exit)) (now (triangles .exit)) (now (work .exit))) ⌝ }
 {
+    if !has_face(lo, hi, turns, f) {
+        return w;
+    }
+    let k = f / 2;
+    let side = f % 2 == 1;
     let u = line_of(lo, hi, n, turns, (k + 1) % 3);
     let v = line_of(lo, hi, n, turns, (k + 2) % 3);
     let val = end_of(lo, hi, k, side);
@@ -100,67 +119,6 @@ fn weld_face(
     )
 }
 
-// The faces on the axis k: none where it is periodic, and the high one only where the bounds differ.
-fn weld_faces(
-    vertices: &mut [f64],
-    triangles: &mut [u32],
-    work: &mut [u32],
-    w: Welder,
-    lo: Vec3,
-    hi: Vec3,
-    n: usize,
-    turns: bool,
-    chart: Chart,
-    table: &[f64],
-    numbers: &mut [usize],
-    k: usize,
-) -> Welder
-    requires { ⌜ Ready (held w (now vertices) (now triangles) (now work)) ⌝ }
-    requires { ⌜ (k < 3) × BoxWithin lo hi n turns chart (now table) (length (now numbers)) ⌝ }
-    ensures { λ r. ⌜ Runs (Box.faces lo hi (three 1 n 1) (three false turns false) (mapped chart) k)
-        (held w (now (vertices .entry)) (now (triangles .entry)) (now (work .entry)))
-        (held r (now (vertices .exit)) (now (triangles .exit)) (now (work .exit))) ⌝ }
-{
-    if wraps(turns, k) {
-        return w;
-    }
-    let low = weld_face(
-        vertices,
-        triangles,
-        work,
-        w,
-        lo,
-        hi,
-        n,
-        turns,
-        chart,
-        table,
-        numbers,
-        k,
-        false,
-    );
-    let top = math::axis(hi, k);
-    let bottom = math::axis(lo, k);
-    if top == bottom {
-        return low;
-    }
-    weld_face(
-        vertices,
-        triangles,
-        work,
-        low,
-        lo,
-        hi,
-        n,
-        turns,
-        chart,
-        table,
-        numbers,
-        k,
-        true,
-    )
-}
-
 // Soup::param_box with n parts on the middle axis, periodic where turns says so, and 1 part on the others. `table` has the sines and
 // cosines of the middle axis where the chart takes it as an angle; `numbers` is for guesses, as in weld_grid.
 pub fn weld_param_box(
@@ -182,46 +140,24 @@ pub fn weld_param_box(
         (held w (now (vertices .entry)) (now (triangles .entry)) (now (work .entry)))
         (held r (now (vertices .exit)) (now (triangles .exit)) (now (work .exit))) ⌝ }
 {
-    let a = weld_faces(
-        vertices,
-        triangles,
-        work,
-        w,
-        lo,
-        hi,
-        n,
-        turns,
-        chart,
-        table,
-        numbers,
-        0,
-    );
-    let b = weld_faces(
-        vertices,
-        triangles,
-        work,
-        a,
-        lo,
-        hi,
-        n,
-        turns,
-        chart,
-        table,
-        numbers,
-        1,
-    );
-    weld_faces(
-        vertices,
-        triangles,
-        work,
-        b,
-        lo,
-        hi,
-        n,
-        turns,
-        chart,
-        table,
-        numbers,
-        2,
-    )
+    let mut st = w;
+    let mut f = 0;
+    while f < 6 {
+        st = weld_face(
+            vertices,
+            triangles,
+            work,
+            st,
+            lo,
+            hi,
+            n,
+            turns,
+            chart,
+            table,
+            numbers,
+            f,
+        );
+        f += 1;
+    }
+    st
 }

@@ -1,5 +1,6 @@
 // Parameter boxes, streamed into the welder: Soup::param_box and box_shape of src/tessellate.rs.
 mod faces;
+mod flat;
 mod shape;
 
 pub use faces::line_of;

@@ -5,6 +5,7 @@ ghost use Prim.Native.Nat.{_≤_};
 ghost use Rattle.weld.specs.Rep.{held, Ready, Runs};
 ghost use Rattle.soups.specs.Boxes as Boxes;
 use crate::faces;
+use crate::flat;
 use math::Vec3;
 use soups::Chart;
 use surfaces::Turns;
@@ -93,19 +94,5 @@ pub fn weld_box_shape(
         let full = is_full(hi.y - lo.y);
         return weld_cylindrical_box(vertices, triangles, work, w, full, lo, hi, segments);
     }
-    let none = [0.0; 2];
-    let mut numbers = [0usize; 2];
-    faces::weld_param_box(
-        vertices,
-        triangles,
-        work,
-        w,
-        lo,
-        hi,
-        1,
-        false,
-        Chart::Cartesian,
-        &none,
-        &mut numbers,
-    )
+    flat::weld_flat_box(vertices, triangles, work, w, lo, hi)
 }

@@ -4,12 +4,15 @@ use mathlib.Core.Bool.{Bool, true, false, cond, not, _&&_}
 use mathlib.Core.List.{List, [], _∷_}
 use Prim.Native.Nat.{ℕ, _+_, _≤_, _<_, min}
 use native.Mathlib.Omega.{arith}
+use types.Run.{OneOf, miss}
+use denote.Enum.Declared.{tagOf}
 use borrow.Author.Tests.{lt-ltb, le-ltb, eq-eqb, ne-eqb}
 use lib.Dec.{ltb, eqb}
 use lib.Ieee.{Float, binary64, add}
 use Rattle.ieee.specs.Number.{plusZero, minimum, maximum}
 use Rattle.math.specs.declared.Vec3.{Vec3}
-use Rattle.weld.specs.Rep.{Held, Ready, Runs}
+use Rattle.weld.specs.declared.Welder.{Welder}
+use Rattle.weld.specs.Rep.{Held, held, Ready, Runs, Parted}
 use Rattle.weld.specs.Runs.{runs-none, runs-as}
 use Rattle.soups.specs.Coords.{toCartesian}
 use Rattle.soups.specs.Sphere.{sphere, sphereSoup}
@@ -18,10 +21,14 @@ use Rattle.soups.specs.Polygons.{lowEnd, highEnd, extrudedPolygon, polygonSoup,
 use Rattle.outline.specs.declared.Axes.{Axes}
 use Rattle.outline.specs.Axes.{planeAxes}
 use Rattle.shape.specs.declared.Shape.{Shape}
+use Rattle.shape.specs.declared.Shape.the-variants.{Box, MultiBox, Sphere, SphericalShell, Cylinder, CylindricalShell, Polygon, LinPoly, RotPoly, Wire}
+use Rattle.shape.proofs.Shape as ofShape
 use Rattle.shape.specs.declared.TessellationOptions.{TessellationOptions}
 use Rattle.parts.specs.Parts.{PartsRun}
+use Rattle.parts.specs.PartsLaws.{parts-one}
 use Rattle.outcome.specs.Solid.{partsOf}
 use Rattle.solids.specs.Limits.{Listed}
+use Rattle.solids.specs.Soups.{solidSoup, outlineSoup}
 
 pub sphere-soup : (cylindrical : Bool) (center c : Vec3) (radius : Float) (segments rings : ℕ) (h k : Held) → c ≡ toCartesian cylindrical center
     → Runs (sphere c radius segments rings false) h k → Runs (sphereSoup cylindrical center radius segments rings) h k
@@ -90,5 +97,65 @@ pub shape-as : (cylindrical : Bool) (s t : Shape) (v : List Float) (o : Tessella
     → PartsRun (partsOf cylindrical s v o) h k
 shape-as cylindrical s t v o h k e R = subst (λ (x : Shape). PartsRun (partsOf cylindrical x v o) h k) (sym e) R
 
+pub solid-as : (cylindrical : Bool) (s t : Shape) (o : TessellationOptions) (h k : Held) → s ≡ t → Runs (solidSoup cylindrical t o) h k → Runs (solidSoup cylindrical s o) h k
+solid-as cylindrical s t o h k e R = subst (λ (x : Shape). Runs (solidSoup cylindrical x o) h k) (sym e) R
+
+pub outline-as : (s t : Shape) (v : List Float) (n : ℕ) (h k : Held) → s ≡ t → Runs (outlineSoup t v n) h k → Runs (outlineSoup s v n) h k
+outline-as s t v n h k e R = subst (λ (x : Shape). Runs (outlineSoup x v n) h k) (sym e) R
+
 pub listed-as : (s t : Shape) (v : List Float) → s ≡ t → Listed s v → Listed t v
 listed-as s t v e l = subst (λ (x : Shape). Listed x v) e l
+
+-- a shape of which the case is one of several: the keys are the numbers of the variants
+pub solid-none : (s : Shape) (cylindrical : Bool) (o : TessellationOptions) (h : Held) → Ready h → OneOf (1 ∷ 6 ∷ 7 ∷ 8 ∷ 9 ∷ []) (tagOf ofShape.the-type s) → Runs (solidSoup cylindrical s o) h h
+solid-none (Box start stop) cylindrical o h R k = absurd (miss (1 ∷ 6 ∷ 7 ∷ 8 ∷ 9 ∷ []) 0 tt k)
+solid-none MultiBox cylindrical o h R k = runs-none h R
+solid-none (Sphere center radius) cylindrical o h R k = absurd (miss (1 ∷ 6 ∷ 7 ∷ 8 ∷ 9 ∷ []) 2 tt k)
+solid-none (SphericalShell center radius width) cylindrical o h R k = absurd (miss (1 ∷ 6 ∷ 7 ∷ 8 ∷ 9 ∷ []) 3 tt k)
+solid-none (Cylinder start stop radius) cylindrical o h R k = absurd (miss (1 ∷ 6 ∷ 7 ∷ 8 ∷ 9 ∷ []) 4 tt k)
+solid-none (CylindricalShell start stop radius width) cylindrical o h R k = absurd (miss (1 ∷ 6 ∷ 7 ∷ 8 ∷ 9 ∷ []) 5 tt k)
+solid-none (Polygon normal elevation) cylindrical o h R k = runs-none h R
+solid-none (LinPoly normal elevation length) cylindrical o h R k = runs-none h R
+solid-none (RotPoly normal elevation axis start stop) cylindrical o h R k = runs-none h R
+solid-none (Wire radius) cylindrical o h R k = runs-none h R
+
+pub outline-none : (s : Shape) (v : List Float) (n : ℕ) (h : Held) → Ready h → OneOf (0 ∷ 1 ∷ 2 ∷ 3 ∷ 4 ∷ 5 ∷ 9 ∷ []) (tagOf ofShape.the-type s) → Runs (outlineSoup s v n) h h
+outline-none (Box start stop) v n h R k = runs-none h R
+outline-none MultiBox v n h R k = runs-none h R
+outline-none (Sphere center radius) v n h R k = runs-none h R
+outline-none (SphericalShell center radius width) v n h R k = runs-none h R
+outline-none (Cylinder start stop radius) v n h R k = runs-none h R
+outline-none (CylindricalShell start stop radius width) v n h R k = runs-none h R
+outline-none (Polygon normal elevation) v n h R k = absurd (miss (0 ∷ 1 ∷ 2 ∷ 3 ∷ 4 ∷ 5 ∷ 9 ∷ []) 6 tt k)
+outline-none (LinPoly normal elevation length) v n h R k = absurd (miss (0 ∷ 1 ∷ 2 ∷ 3 ∷ 4 ∷ 5 ∷ 9 ∷ []) 7 tt k)
+outline-none (RotPoly normal elevation axis start stop) v n h R k = absurd (miss (0 ∷ 1 ∷ 2 ∷ 3 ∷ 4 ∷ 5 ∷ 9 ∷ []) 8 tt k)
+outline-none (Wire radius) v n h R k = runs-none h R
+
+-- the one part of such a shape
+pub solid-part : (s : Shape) (cylindrical : Bool) (v : List Float) (o : TessellationOptions) (h : Held) (w r : Welder) (vs : List Float) (ts ws : List ℕ) → OneOf (0 ∷ 2 ∷ 3 ∷ 4 ∷ 5 ∷ []) (tagOf ofShape.the-type s)
+    → Runs (solidSoup cylindrical s o) h (held w vs ts ws) → Parted w r → PartsRun (partsOf cylindrical s v o) h (held r vs ts ws)
+unfolding partsOf
+solid-part (Box start stop) cylindrical v o h w r vs ts ws k R P = parts-one (solidSoup cylindrical (Box start stop) o) h w r vs ts ws R P
+solid-part MultiBox cylindrical v o h w r vs ts ws k R P = absurd (miss (0 ∷ 2 ∷ 3 ∷ 4 ∷ 5 ∷ []) 1 tt k)
+solid-part (Sphere center radius) cylindrical v o h w r vs ts ws k R P = parts-one (solidSoup cylindrical (Sphere center radius) o) h w r vs ts ws R P
+solid-part (SphericalShell center radius width) cylindrical v o h w r vs ts ws k R P = parts-one (solidSoup cylindrical (SphericalShell center radius width) o) h w r vs ts ws R P
+solid-part (Cylinder start stop radius) cylindrical v o h w r vs ts ws k R P = parts-one (solidSoup cylindrical (Cylinder start stop radius) o) h w r vs ts ws R P
+solid-part (CylindricalShell start stop radius width) cylindrical v o h w r vs ts ws k R P = parts-one (solidSoup cylindrical (CylindricalShell start stop radius width) o) h w r vs ts ws R P
+solid-part (Polygon normal elevation) cylindrical v o h w r vs ts ws k R P = absurd (miss (0 ∷ 2 ∷ 3 ∷ 4 ∷ 5 ∷ []) 6 tt k)
+solid-part (LinPoly normal elevation length) cylindrical v o h w r vs ts ws k R P = absurd (miss (0 ∷ 2 ∷ 3 ∷ 4 ∷ 5 ∷ []) 7 tt k)
+solid-part (RotPoly normal elevation axis start stop) cylindrical v o h w r vs ts ws k R P = absurd (miss (0 ∷ 2 ∷ 3 ∷ 4 ∷ 5 ∷ []) 8 tt k)
+solid-part (Wire radius) cylindrical v o h w r vs ts ws k R P = absurd (miss (0 ∷ 2 ∷ 3 ∷ 4 ∷ 5 ∷ []) 9 tt k)
+
+pub outline-part : (s : Shape) (cylindrical : Bool) (v : List Float) (o : TessellationOptions) (h : Held) (w r : Welder) (vs : List Float) (ts ws : List ℕ) → OneOf (6 ∷ 7 ∷ 8 ∷ []) (tagOf ofShape.the-type s)
+    → Runs (outlineSoup s v (o .segments)) h (held w vs ts ws) → Parted w r → PartsRun (partsOf cylindrical s v o) h (held r vs ts ws)
+unfolding partsOf
+outline-part (Box start stop) cylindrical v o h w r vs ts ws k R P = absurd (miss (6 ∷ 7 ∷ 8 ∷ []) 0 tt k)
+outline-part MultiBox cylindrical v o h w r vs ts ws k R P = absurd (miss (6 ∷ 7 ∷ 8 ∷ []) 1 tt k)
+outline-part (Sphere center radius) cylindrical v o h w r vs ts ws k R P = absurd (miss (6 ∷ 7 ∷ 8 ∷ []) 2 tt k)
+outline-part (SphericalShell center radius width) cylindrical v o h w r vs ts ws k R P = absurd (miss (6 ∷ 7 ∷ 8 ∷ []) 3 tt k)
+outline-part (Cylinder start stop radius) cylindrical v o h w r vs ts ws k R P = absurd (miss (6 ∷ 7 ∷ 8 ∷ []) 4 tt k)
+outline-part (CylindricalShell start stop radius width) cylindrical v o h w r vs ts ws k R P = absurd (miss (6 ∷ 7 ∷ 8 ∷ []) 5 tt k)
+outline-part (Polygon normal elevation) cylindrical v o h w r vs ts ws k R P = parts-one (outlineSoup (Polygon normal elevation) v (o .segments)) h w r vs ts ws R P
+outline-part (LinPoly normal elevation length) cylindrical v o h w r vs ts ws k R P = parts-one (outlineSoup (LinPoly normal elevation length) v (o .segments)) h w r vs ts ws R P
+outline-part (RotPoly normal elevation axis start stop) cylindrical v o h w r vs ts ws k R P = parts-one (outlineSoup (RotPoly normal elevation axis start stop) v (o .segments)) h w r vs ts ws R P
+outline-part (Wire radius) cylindrical v o h w r vs ts ws k R P = absurd (miss (6 ∷ 7 ∷ 8 ∷ []) 9 tt k)

@@ -1,4 +1,5 @@
 // Each solid of tessellate in src/tessellate.rs, streamed into the welder.
+mod outlines;
 mod shapes;
 mod solid;
 

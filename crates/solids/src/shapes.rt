@@ -4,6 +4,7 @@ ghost use Rattle.weld.specs.Rep.{held, Ready};
 ghost use Rattle.parts.specs.Parts.{PartsRun};
 ghost use Rattle.outcome.specs.Solid.{partsOf};
 ghost use Rattle.solids.specs.Limits.{Bounded, Listed};
+use crate::outlines;
 use crate::solid;
 use shape::Shape;
 use shape::TessellationOptions;
@@ -29,16 +30,6 @@ pub fn weld_shape(
     let segments = options.segments;
     let rings = options.sphere_rings;
     match shape {
-        Shape::Box { start, stop } => weld::new_part(boxes::weld_box_shape(
-            vertices,
-            triangles,
-            work,
-            w,
-            start,
-            stop,
-            cylindrical,
-            segments,
-        )),
         Shape::MultiBox => parts::weld_multi_box(
             vertices,
             triangles,
@@ -48,109 +39,6 @@ pub fn weld_shape(
             cylindrical,
             segments,
         ),
-        Shape::Sphere { center, radius } => weld::new_part(solid::weld_sphere_at(
-            vertices,
-            triangles,
-            work,
-            w,
-            center,
-            radius,
-            cylindrical,
-            segments,
-            rings,
-        )),
-        Shape::SphericalShell {
-            center,
-            radius,
-            shell_width,
-        } => weld::new_part(rounds::weld_spherical_shell(
-            vertices,
-            triangles,
-            work,
-            w,
-            center,
-            radius,
-            shell_width,
-            cylindrical,
-            segments,
-            rings,
-        )),
-        Shape::Cylinder {
-            start,
-            stop,
-            radius,
-        } => weld::new_part(solid::weld_cylinder_at(
-            vertices,
-            triangles,
-            work,
-            w,
-            start,
-            stop,
-            radius,
-            cylindrical,
-            segments,
-        )),
-        Shape::CylindricalShell {
-            start,
-            stop,
-            radius,
-            shell_width,
-        } => weld::new_part(solid::weld_cylindrical_shell(
-            vertices,
-            triangles,
-            work,
-            w,
-            start,
-            stop,
-            radius,
-            shell_width,
-            cylindrical,
-            segments,
-        )),
-        Shape::Polygon {
-            norm_dir,
-            elevation,
-        } => weld::new_part(solid::weld_polygon(
-            vertices,
-            triangles,
-            work,
-            w,
-            norm_dir,
-            list,
-            elevation,
-        )),
-        Shape::LinPoly {
-            norm_dir,
-            elevation,
-            length,
-        } => weld::new_part(solid::weld_lin_poly(
-            vertices,
-            triangles,
-            work,
-            w,
-            norm_dir,
-            list,
-            elevation,
-            length,
-        )),
-        Shape::RotPoly {
-            norm_dir,
-            elevation: _,
-            rot_axis_dir,
-            start_angle,
-            stop_angle,
-        } => weld::new_part(solid::weld_rot_poly(
-            vertices,
-            triangles,
-            work,
-            w,
-            norm_dir,
-            rot_axis_dir,
-            list,
-            start_angle,
-            stop_angle,
-            segments,
-        )),
         Shape::Wire { radius } => parts::weld_wire(
             vertices,
             triangles,
@@ -162,5 +50,24 @@ pub fn weld_shape(
             segments,
             rings,
         ),
+        Shape::Polygon { .. } | Shape::LinPoly { .. } | Shape::RotPoly { .. } =>
+            weld::new_part(outlines::weld_outline(
+                vertices,
+                triangles,
+                work,
+                w,
+                shape,
+                list,
+                segments,
+            )),
+        _ => weld::new_part(solid::weld_solid(
+            vertices,
+            triangles,
+            work,
+            w,
+            shape,
+            cylindrical,
+            options,
+        )),
     }
 }

@@ -32,13 +32,14 @@ use Rattle.weld.specs.Rep.{Held, Ready, Runs}
 use Rattle.weld.specs.Runs.{runs-none, runs-then, runs-as}
 use Rattle.soups.specs.declared.Surface.the-variants.{Extruded, Rotated}
 use Rattle.soups.specs.Arc.{arcSegments}
+use Rattle.soups.specs.declared.Surface.{Surface}
 use Rattle.soups.specs.Grid.{Soup, grid}
 use Rattle.soups.specs.Boxes.{isFull}
 use Rattle.soups.specs.Outline.{planePoint, caps, cornerAt, extrudedSides, extrudedFrom, angle, spun, turnedAt, turnedSides, turnedFrom, rotatedFrom}
 use Rattle.soups.specs.Polygons.{capTriangles, extrudedPolygon, radialAxis, swaps, rotpoly}
 use Rattle.soups.specs.Surface.{height, surfaceAt}
 use Rattle.soups.proofs.SurfaceGrids.{extruded-surface, rotated-surface}
-use Rattle.sweeps.specs.Caps.{capOf, capsOf, turnSpan}
+use Rattle.sweeps.specs.Caps.{capOf, capsOf, turnSpan, turnOf}
 use Rattle.sweeps.proofs.Numbers.{BelowAll, caps-below}
 
 -- the cap triangles at the start of the slice that `triangulate_polygon` left
@@ -117,6 +118,12 @@ module _ (n : ℕ) (f f' g g' : ℕ → Vec3) (p : (i : ℕ) → i < n → f i �
       ap (λ (x : Tri Vec3). x ∷ capsOf false f g ts) (tri-cong f f' p t (h .0) (h .1) (h .2))
       ∙ ap (λ (r : Soup). mapTri f' t ∷ r) (one-cong ts (h .3))
 
+-- the triangles that the clipper gave
+pub ends-run : (both : Bool) (near far : ℕ → Vec3) (p : List Float) (l : List ℕ) (h k : Held) → l ≡ triangulatePolygon p .triangles
+    → Runs (capsOf both near far (tris l)) h k → Runs (capsOf both near far (capTriangles p)) h k
+unfolding capTriangles
+ends-run both near far p l h k e R = runs-as (ap (λ (x : List ℕ). capsOf both near far (tris x)) e) R
+
 module _ (n : ℕ) (p : List Float) (lo hi : Float) where
   abbrev extrudedAt : ℕ → ℕ → Vec3
   extrudedAt = surfaceAt p (Extruded n (length p / 2) lo hi)
@@ -139,27 +146,23 @@ module _ (n : ℕ) (p : List Float) (lo hi : Float) where
   pub extruded-none : (ts : List (Tri ℕ)) (h : Held) → Ready h → length p / 2 < 3 → Runs (extrudedFrom n p ts lo hi) h h
   extruded-none ts h R l = runs-as (sym (extruded-is ts true (ne hi lo) (lt-ltb (length p / 2) 3 l) refl)) (runs-none h R)
 
-  caps-are : (l : List ℕ) → l ≡ triangulatePolygon p .triangles → tris l ≡ capTriangles p
-  unfolding capTriangles
-  caps-are l e = ap {B = List (Tri ℕ)} tris e
-
-  pub extruded-both : (l : List ℕ) (h k r : Held) → 3 ≤ length p / 2 → ne hi lo ≡ true → l ≡ triangulatePolygon p .triangles
-      → Runs (capsOf true (λ i. surfaceAt p (Extruded n (length p / 2) lo hi) i 1) (λ i. surfaceAt p (Extruded n (length p / 2) lo hi) i 0) (tris l)) h k
+  pub extruded-both : (h k r : Held) → 3 ≤ length p / 2 → ne hi lo ≡ true
+      → Runs (capsOf (ne hi lo) (λ i. surfaceAt p (Extruded n (length p / 2) lo hi) i 1) (λ i. surfaceAt p (Extruded n (length p / 2) lo hi) i 0) (capTriangles p)) h k
       → Runs (grid (length p / 2) 1 false (surfaceAt p (Extruded n (length p / 2) lo hi))) k r → Runs (extrudedFrom n p (capTriangles p) lo hi) h r
-  extruded-both l h k r m d e R Q =
+  extruded-both h k r m d R Q =
       let c : Soup = caps (λ i. cornerAt n p i hi) (λ i. cornerAt n p i lo) (capTriangles p) in
-      let x : capsOf true (λ i. extrudedAt i 1) (λ i. extrudedAt i 0) (tris l) ≡ c
-      = ap (capsOf true (λ i. extrudedAt i 1) (λ i. extrudedAt i 0)) (caps-are l e)
+      let x : capsOf (ne hi lo) (λ i. extrudedAt i 1) (λ i. extrudedAt i 0) (capTriangles p) ≡ c
+      = ap (λ (b : Bool). capsOf b (λ i. extrudedAt i 1) (λ i. extrudedAt i 0) (capTriangles p)) d
       ∙ both-cong (length p / 2) (λ i. extrudedAt i 1) (λ i. cornerAt n p i hi) (λ i. extrudedAt i 0) (λ i. cornerAt n p i lo) top bottom (capTriangles p) (caps-below p m) in
       runs-as (sym (extruded-is (capTriangles p) false true (le-ltb (length p / 2) 3 m) d))
       (runs-then c (extrudedSides n p lo hi) h k r (runs-as x R) (runs-as (sym (extruded-surface p n lo hi)) Q))
 
-  pub extruded-flat : (l : List ℕ) (h k : Held) → 3 ≤ length p / 2 → ne hi lo ≡ false → l ≡ triangulatePolygon p .triangles
-      → Runs (capsOf false (λ i. surfaceAt p (Extruded n (length p / 2) lo hi) i 1) (λ i. surfaceAt p (Extruded n (length p / 2) lo hi) i 0) (tris l)) h k
+  pub extruded-flat : (h k : Held) → 3 ≤ length p / 2 → ne hi lo ≡ false
+      → Runs (capsOf (ne hi lo) (λ i. surfaceAt p (Extruded n (length p / 2) lo hi) i 1) (λ i. surfaceAt p (Extruded n (length p / 2) lo hi) i 0) (capTriangles p)) h k
       → Runs (extrudedFrom n p (capTriangles p) lo hi) h k
-  extruded-flat l h k m d e R =
+  extruded-flat h k m d R =
       runs-as
-      (ap (capsOf false (λ i. extrudedAt i 1) (λ i. extrudedAt i 0)) (caps-are l e)
+      (ap (λ (b : Bool). capsOf b (λ i. extrudedAt i 1) (λ i. extrudedAt i 0) (capTriangles p)) d
       ∙ one-cong (length p / 2) (λ i. extrudedAt i 1) (λ i. cornerAt n p i hi) (λ i. extrudedAt i 0) (λ i. cornerAt n p i lo) top bottom (capTriangles p) (caps-below p m)
       ∙ sym (extruded-is (capTriangles p) false false (le-ltb (length p / 2) 3 m) d)) R
 
@@ -183,37 +186,37 @@ module _ (a q : ℕ) (p : List Float) (start stop : Float) (segments : ℕ) wher
   rotated-none h R l = runs-as (rotated-is (isFull (absolute spanned)) true (arcSegments segments (turnSpan (isFull (absolute spanned)) spanned)) refl refl (lt-ltb (length p /
       2) 3 l)) (runs-none h R)
 
-  turned-is : (full : Bool) (n : ℕ) (t : Bool) → full ≡ t → turnedSides a q p start spanned full n
-      ++ cond t [] (caps (λ i. turnedAt a q p start spanned full n i 0) (λ i. turnedAt a q p start spanned full n i n) (capTriangles p)) ≡ turnedFrom a q p (capTriangles p) start spanned full n
-  unfolding turnedFrom
-  turned-is full n t e =
-      ap (λ (b : Bool). turnedSides a q p start spanned full n ++ cond b [] (caps (λ i. turnedAt a q p start spanned full n i 0) (λ i. turnedAt a q p start spanned full n i n)
-      (capTriangles p))) (sym e)
-
-  pub rotated-full : (full : Bool) (n : ℕ) (h k : Held) → 3 ≤ length p / 2 → full ≡ isFull (absolute spanned) → n ≡ arcSegments segments (turnSpan full spanned) → full ≡ true
-      → Runs (grid (length p / 2) n true (surfaceAt p (Rotated a q (length p / 2) full start spanned n))) h k → Runs (rotatedFrom a q p (capTriangles p) start stop segments) h k
-  rotated-full full n h k m x y e R =
-      runs-as
-      (sym (rotated-surface p a q start spanned full n) ∙ sym (append-nil (turnedSides a q p start spanned full n)) ∙ turned-is full n true e
-      ∙ rotated-is full false n x y (le-ltb (length p / 2) 3 m)) R
-
   spun-at : (full : Bool) (n i j : ℕ) → i < length p / 2 → surfaceAt p (Rotated a q (length p / 2) full start spanned n) i j ≡ turnedAt a q p start spanned full n i j
   unfolding surfaceAt
   spun-at full n i j h = ap (λ (k : ℕ). spun a q (point p k) (sinCos (angle full start spanned n j))) (mod-eq-of-lt h)
 
-  pub rotated-part : (full : Bool) (n : ℕ) (l : List ℕ) (h k r : Held) → 3 ≤ length p / 2 → full ≡ isFull (absolute spanned) → n ≡ arcSegments segments (turnSpan full spanned) → full ≡ false
-      → l ≡ triangulatePolygon p .triangles → Runs (grid (length p / 2) n true (surfaceAt p (Rotated a q (length p / 2) full start spanned n))) h k
-      → Runs (capsOf true (λ i. surfaceAt p (Rotated a q (length p / 2) full start spanned n) i 0) (λ i. surfaceAt p (Rotated a q (length p / 2) full start spanned n) i n) (tris l)) k r
-      → Runs (rotatedFrom a q p (capTriangles p) start stop segments) h r
-  rotated-part full n l h k r m x y e d R Q =
+  turned-is : (full : Bool) (n : ℕ) → 3 ≤ length p / 2 → turnOf p (Rotated a q (length p / 2) full start spanned n) (length p / 2) n full ≡ turnedFrom a q p (capTriangles p) start spanned full n
+  unfolding turnedFrom
+  turned-is full n m =
       let s : ℕ → ℕ → Vec3 = surfaceAt p (Rotated a q (length p / 2) full start spanned n) in
-      let c : Soup = caps (λ i. turnedAt a q p start spanned full n i 0) (λ i. turnedAt a q p start spanned full n i n) (capTriangles p) in
-      let z : capsOf true (λ i. s i 0) (λ i. s i n) (tris l) ≡ c
-      = ap (capsOf true (λ i. s i 0) (λ i. s i n)) (caps-are 0 p start stop l d)
-      ∙ both-cong (length p / 2) (λ i. s i 0) (λ i. turnedAt a q p start spanned full n i 0) (λ i. s i n) (λ i. turnedAt a q p start spanned full n i n)
-      (λ i o. spun-at full n i 0 o) (λ i o. spun-at full n i n o) (capTriangles p) (caps-below p m) in
-      runs-as (turned-is full n false e ∙ rotated-is full false n x y (le-ltb (length p / 2) 3 m))
-      (runs-then (turnedSides a q p start spanned full n) c h k r (runs-as (sym (rotated-surface p a q start spanned full n)) R) (runs-as z Q))
+      ap (λ (x : Soup). x ++ cond full [] (capsOf true (λ i. s i 0) (λ i. s i n) (capTriangles p))) (sym (rotated-surface p a q start spanned full n))
+      ∙ ap (λ (x : Soup). turnedSides a q p start spanned full n ++ cond full [] x)
+      (both-cong (length p / 2) (λ i. s i 0) (λ i. turnedAt a q p start spanned full n i 0) (λ i. s i n) (λ i. turnedAt a q p start spanned full n i n)
+      (λ i o. spun-at full n i 0 o) (λ i o. spun-at full n i n o) (capTriangles p) (caps-below p m))
+
+  pub rotated-runs : (full : Bool) (n : ℕ) (h k : Held) → 3 ≤ length p / 2 → full ≡ isFull (absolute spanned) → n ≡ arcSegments segments (turnSpan full spanned)
+      → Runs (turnOf p (Rotated a q (length p / 2) full start spanned n) (length p / 2) n full) h k → Runs (rotatedFrom a q p (capTriangles p) start stop segments) h k
+  rotated-runs full n h k m x y R = runs-as (turned-is full n m ∙ rotated-is full false n x y (le-ltb (length p / 2) 3 m)) R
+
+-- the sides and, where the turn is not full, the ends
+module _ (p : List Float) (s : Surface) (len n : ℕ) (full : Bool) where
+  abbrev sides : Soup
+  sides = grid len n true (surfaceAt p s)
+
+  abbrev ends : Soup
+  ends = capsOf true (λ i. surfaceAt p s i 0) (λ i. surfaceAt p s i n) (capTriangles p)
+
+  pub turn-full : (h k : Held) → full ≡ true → Runs (grid len n true (surfaceAt p s)) h k → Runs (turnOf p s len n full) h k
+  turn-full h k e R = runs-as (sym (append-nil sides) ∙ ap (λ (b : Bool). sides ++ cond b [] ends) (sym e)) R
+
+  pub turn-part : (h k l : Held) → full ≡ false → Runs (grid len n true (surfaceAt p s)) h k
+      → Runs (capsOf true (λ i. surfaceAt p s i 0) (λ i. surfaceAt p s i n) (capTriangles p)) k l → Runs (turnOf p s len n full) h l
+  turn-part h k l e R Q = runs-as (ap (λ (b : Bool). sides ++ cond b [] ends) (sym e)) (runs-then sides ends h k l R Q)
 
 pub rotpoly-runs : (a q normal : ℕ) (swap : Bool) (v p : List Float) (start stop : Float) (segments : ℕ) (h k : Held) → q ≡ radialAxis a normal → swap ≡ swaps a normal
     → p ≡ prepared swap v → Runs (rotatedFrom a q p (capTriangles p) start stop segments) h k → Runs (rotpoly a normal v start stop segments) h k

@@ -1,4 +1,5 @@
 // Outlines that are extruded or rotated, welded with their caps: `extruded_polygon` and `rotpoly` of src/tessellate.rs.
+mod ends;
 mod outlines;
 
 pub use outlines::weld_extruded;

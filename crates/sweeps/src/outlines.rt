@@ -1,114 +1,17 @@
-// extruded_polygon and rotpoly of src/tessellate.rs, streamed into the welder. The prepared corners and the caps are in local arrays.
+// extruded_polygon and rotpoly of src/tessellate.rs, streamed into the welder. The prepared corners are in local arrays.
 ghost use mathlib.Core.Path.{_≡_};
-ghost use mathlib.Core.Bool.{cond};
-ghost use mathlib.Core.List.{[]};
-ghost use Prim.Native.Nat.{ℕ, _+_, _*_, _/_, _≤_, _<_};
+ghost use Prim.Native.Nat.{_+_, _≤_, _<_};
 ghost use lib.ListN.{length};
-ghost use lib.Ieee.{Float};
-ghost use Rattle.ieee.specs.Number.{tau};
-ghost use Rattle.balance.specs.Buffer.{tris};
 ghost use Rattle.weld.specs.Rep.{held, Ready, Runs};
-ghost use Rattle.soups.specs.Surface.{surfaceAt};
 ghost use Rattle.soups.specs.Outline as Outline;
 ghost use Rattle.soups.specs.Polygons as Polygons;
-ghost use Rattle.sweeps.specs.Caps.{CapsWithin, capOf, capsOf, turnSpan};
+ghost use Rattle.sweeps.specs.Caps.{turnSpan, TurnWithin, turnOf};
+use crate::ends;
 use soups::Surface;
 use surfaces::Turns;
 use weld::Welder;
 
 const TAU: f64 = 6.283185307179586;
-
-// A cap triangle at the one end, and where both says so turned round at the other end.
-fn weld_cap(
-    vertices: &mut [f64],
-    triangles: &mut [u32],
-    work: &mut [u32],
-    w: Welder,
-    s: Surface,
-    corners: &[f64],
-    rows: &[f64],
-    cols: &[f64],
-    both: bool,
-    near: usize,
-    far: usize,
-    a: usize,
-    b: usize,
-    c: usize,
-) -> Welder
-    requires { ⌜ Ready (held w (now vertices) (now triangles) (now work)) ⌝ }
-    requires { ⌜ CapsWithin (now corners) s (now rows) (now cols) near × CapsWithin (now corners) s (now rows) (now cols) far ⌝ }
-    ensures { λ r. ⌜ Runs (capOf both (λ i. surfaceAt (now (corners .entry)) s i near) (λ i. surfaceAt (now (corners .entry)) s i far) (a, b, c))
-        (held w (now (vertices .entry)) (now (triangles .entry)) (now (work .entry)))
-        (held r (now (vertices .exit)) (now (triangles .exit)) (now (work .exit))) ⌝ }
-{
-    let an = surfaces::surface_point(s, corners, rows, cols, a, near);
-    let bn = surfaces::surface_point(s, corners, rows, cols, b, near);
-    let cn = surfaces::surface_point(s, corners, rows, cols, c, near);
-    let u = weld::weld_triangle(vertices, triangles, work, w, an, bn, cn);
-    if both {
-        let af = surfaces::surface_point(s, corners, rows, cols, a, far);
-        let cf = surfaces::surface_point(s, corners, rows, cols, c, far);
-        let bf = surfaces::surface_point(s, corners, rows, cols, b, far);
-        return weld::weld_triangle(vertices, triangles, work, u, af, cf, bf);
-    }
-    u
-}
-
-fn wide(x: u32) -> usize
-    ensures { λ r. ⌜ r ≡ x ⌝ }
-{
-    x as usize
-}
-
-// The cap triangles, three corner numbers each.
-fn weld_caps(
-    vertices: &mut [f64],
-    triangles: &mut [u32],
-    work: &mut [u32],
-    w: Welder,
-    s: Surface,
-    corners: &[f64],
-    rows: &[f64],
-    cols: &[f64],
-    caps: &[u32],
-    both: bool,
-    near: usize,
-    far: usize,
-) -> Welder
-    requires { ⌜ Ready (held w (now vertices) (now triangles) (now work)) ⌝ }
-    requires { ⌜ CapsWithin (now corners) s (now rows) (now cols) near × CapsWithin (now corners) s (now rows) (now cols) far ⌝ }
-    ensures { λ r. ⌜ Runs (capsOf both (λ i. surfaceAt (now (corners .entry)) s i near) (λ i. surfaceAt (now (corners .entry)) s i far) (tris (now (caps .entry))))
-        (held w (now (vertices .entry)) (now (triangles .entry)) (now (work .entry)))
-        (held r (now (vertices .exit)) (now (triangles .exit)) (now (work .exit))) ⌝ }
-{
-    let mut st = w;
-    let n = caps.len() / 3;
-    let mut t = 0;
-    while t < n {
-        let k = 3 * t;
-        let a = wide(caps[k]);
-        let b = wide(caps[k + 1]);
-        let c = wide(caps[k + 2]);
-        st = weld_cap(
-            vertices,
-            triangles,
-            work,
-            st,
-            s,
-            corners,
-            rows,
-            cols,
-            both,
-            near,
-            far,
-            a,
-            b,
-            c,
-        );
-        t += 1;
-    }
-    st
-}
 
 // extruded_polygon from the prepared corners on.
 fn weld_extruded_from(
@@ -131,27 +34,12 @@ fn weld_extruded_from(
     if len < 3 {
         return w;
     }
-    let mut caps = [0u32; 1536];
-    let cut = clipper::triangulate_polygon(p, &mut caps);
-    let m = 3 * cut.triangles;
     let s = Surface::Extruded { n, len, lo, hi };
     let none = [0.0; 2];
-    if hi != lo {
+    let both = hi != lo;
+    let u = ends::weld_ends(vertices, triangles, work, w, s, p, &none, &none, both, 1, 0);
+    if both {
         let mut numbers = [0usize; 2];
-        let u = weld_caps(
-            vertices,
-            triangles,
-            work,
-            w,
-            s,
-            p,
-            &none,
-            &none,
-            &caps[..m],
-            true,
-            1,
-            0,
-        );
         return grids::weld_grid(
             vertices,
             triangles,
@@ -167,20 +55,7 @@ fn weld_extruded_from(
             false,
         );
     }
-    weld_caps(
-        vertices,
-        triangles,
-        work,
-        w,
-        s,
-        p,
-        &none,
-        &none,
-        &caps[..m],
-        false,
-        1,
-        0,
-    )
+    u
 }
 
 pub fn weld_extruded(
@@ -210,6 +85,47 @@ fn turn_span(full: bool, span: f64) -> f64
     ensures { λ r. ⌜ r ≡ turnSpan full span ⌝ }
 {
     if full { TAU } else { span }
+}
+
+// The sides of a rotated outline, and its ends where the turn is not full.
+fn weld_turned(
+    vertices: &mut [f64],
+    triangles: &mut [u32],
+    work: &mut [u32],
+    w: Welder,
+    s: Surface,
+    p: &[f64],
+    rows: &[f64],
+    cols: &[f64],
+    len: usize,
+    n: usize,
+    full: bool,
+) -> Welder
+    requires { ⌜ Ready (held w (now vertices) (now triangles) (now work)) ⌝ }
+    requires { ⌜ TurnWithin (now p) s (now rows) (now cols) len n ⌝ }
+    ensures { λ r. ⌜ Runs (turnOf (now (p .entry)) s len n full)
+        (held w (now (vertices .entry)) (now (triangles .entry)) (now (work .entry)))
+        (held r (now (vertices .exit)) (now (triangles .exit)) (now (work .exit))) ⌝ }
+{
+    let mut numbers = [0usize; 1025];
+    let u = grids::weld_grid(
+        vertices,
+        triangles,
+        work,
+        w,
+        s,
+        p,
+        rows,
+        cols,
+        &mut numbers,
+        len,
+        n,
+        true,
+    );
+    if full {
+        return u;
+    }
+    ends::weld_ends(vertices, triangles, work, u, s, p, rows, cols, true, 0, n)
 }
 
 // rotpoly from the prepared corners on.
@@ -249,7 +165,6 @@ fn weld_rotated_from(
     };
     let none = [0.0; 2];
     let mut cols = [0.0; 2050];
-    let mut numbers = [0usize; 1025];
     let t = Turns::Angles {
         full,
         start,
@@ -257,7 +172,7 @@ fn weld_rotated_from(
         n,
     };
     surfaces::fill_turns(t, n, &mut cols);
-    let u = grids::weld_grid(
+    weld_turned(
         vertices,
         triangles,
         work,
@@ -266,30 +181,9 @@ fn weld_rotated_from(
         p,
         &none,
         &cols,
-        &mut numbers,
         len,
         n,
-        true,
-    );
-    if full {
-        return u;
-    }
-    let mut caps = [0u32; 1536];
-    let cut = clipper::triangulate_polygon(p, &mut caps);
-    let m = 3 * cut.triangles;
-    weld_caps(
-        vertices,
-        triangles,
-        work,
-        u,
-        s,
-        p,
-        &none,
-        &cols,
-        &caps[..m],
-        true,
-        0,
-        n,
+        full,
     )
 }
 

@@ -1,10 +1,19 @@
 -- `boxes::faces::weld_face` meets its contract. Assumes nothing.
-use Rattle.boxes.proofs.FaceRuns.{face-asks, face-runs}
-use borrow.Author.Needs.{needs}
+use Rattle.boxes.proofs.FaceRuns.{face-asks, face-runs, face-gone, face-there}
+use native.Mathlib.Omega.{arith}
+use Prim.Native.Nat.{_/_}
 use denote.Ref.{now}
 use lib.ListN.{length}
+use Rattle.boxes.specs.Box.{isHigh}
+use borrow.Author.Needs.{needs}
 use Rattle.boxes.proofs.faces.weld_face.Statement.{statement}
 use Rattle.boxes.proofs.faces.weld_face.Tie as tie
+
+has-face-requires : tie.Need-has-face-requires
+has-face-requires c κs = search needs
+
+returns : tie.Need-returns
+returns c = face-gone _ _ _ _ _ _ _ _ (c .before .before .before .before .before .before .before .pre .0) (c .if1 .taken) (c .before .has-face .ensures)
 
 add-line-of : tie.Need-add-line-of
 add-line-of c = search needs
@@ -25,12 +34,7 @@ slice-aggregate-weld-grid : tie.Need-slice-aggregate-weld-grid
 slice-aggregate-weld-grid c = search needs
 
 weld-grid-requires : tie.Need-weld-grid-requires
-weld-grid-requires c κs =
-    let x = c .before .before .before .before .before .before .before .before .before .before .before .before .before in (
-      x .pre .0,
-      face-asks (x .args .lo) (x .args .hi) (x .args .n) (x .args .turns) (x .args .chart) (x .args .k) (c .before .before .before .before .before .end-of .result) (c .before .before .before .before .before .before .before .line-of .result) (c .before .before .before .before .before .before .line-of2 .result) (now (x .args .table)) (length (now (x .args .numbers))) (x .pre .1 .0) (x .pre .1 .1)
-          (c .before .before .before .before .before .before .before .line-of .ensures) (c .before .before .before .before .before .before .line-of2 .ensures),
-    )
+weld-grid-requires c κs = let x = c .before .before .before .before .before .before .before .before .before .before .before .before .before .before .before in (x .pre .0, face-asks (x .args .lo) (x .args .hi) (x .args .n) (x .args .turns) (x .args .chart) (x .args .f / 2) (c .before .before .before .before .before .end-of .result) (c .before .before .before .before .before .before .before .line-of .result) (c .before .before .before .before .before .before .line-of2 .result) (now (x .args .table)) (length (now (x .args .numbers))) (omega (arith, x .pre .1 .0)) (x .pre .1 .1) (c .before .before .before .before .before .before .before .line-of .ensures) (c .before .before .before .before .before .before .line-of2 .ensures))
 
 same-length : tie.Need-same-length
 same-length c = c .before .before .before .before .before .before .before .before .weld-grid .ensures .vlong
@@ -44,14 +48,15 @@ same-length-3 c = c .before .before .before .before .before .before .before .bef
 same-length-4 : tie.Need-same-length-4
 same-length-4 c = search needs
 
-returns : tie.Need-returns
-returns c = let x = c .before .before .before .before .before .before .before .before .before .before .before .before .before .before .before .before .before .before .before .before .before .before in face-runs (x
-    .args .lo) (x .args .hi) (x .args .n) (x .args .turns) (x .args .chart) _ (x .args .k) (x .args .side) _ _ _ _ _ (c .before .before .before .before .before .before .before .before .before .before .before .before .before .before .before .before .line-of .ensures) (c .before .before .before .before .before .before .before .before .before .before .before .before .before .before .before .line-of2 .ensures) (c .before .before .before .before .before .before .before .before .before .before .before .before .before .before .end-of .ensures) (c .before .before .before .before .before .before .before .before .weld-grid .ensures)
+returns-2 : tie.Need-returns-2
+returns-2 c = let x = c .before .before .before .before .before .before .before .before .before .before .before .before .before .before .before .before .before .before .before .before .before .before .before .before in face-there _ _ _ _ _ (x .args .f) _ _ _ (c .before .before .before .before .before .before .before .before .before .before .before .before .before .before .before .before .before .if1 .left) (c .before .before .before .before .before .before .before .before .before .before .before .before .before .before .before .before .before .before .has-face .ensures) (face-runs (x .args .lo) (x .args .hi) (x .args .n) (x .args .turns) (x .args .chart) _ (x .args .f / 2) (isHigh (x .args .f)) _ _ _ _ _ (c .before .before .before .before .before .before .before .before .before .before .before .before .before .before .before .before .line-of .ensures) (c .before .before .before .before .before .before .before .before .before .before .before .before .before .before .before .line-of2 .ensures) (c .before .before .before .before .before .before .before .before .before .before .before .before .before .before .end-of .ensures) (c .before .before .before .before .before .before .before .before .weld-grid .ensures))
 
 pub weld-face-spec : {M : Type 1} → statement M
 weld-face-spec =
     tie.close
     (tie.spec
+    has-face-requires
+    returns
     add-line-of
     line-of-requires
     add-line-of-2
@@ -63,4 +68,4 @@ weld-face-spec =
     same-length-2
     same-length-3
     same-length-4
-    returns)
+    returns-2)

@@ -1,7 +1,6 @@
 -- `boxes::shape::weld_box_shape` meets its contract. Assumes nothing.
 use Rattle.boxes.proofs.BoxRuns.{shape-turned, shape-straight}
 use borrow.Author.Needs.{needs}
-use native.Mathlib.Omega.{arith}
 use Rattle.boxes.proofs.shape.weld_box_shape.Statement.{statement}
 use Rattle.boxes.proofs.shape.weld_box_shape.Tie as tie
 
@@ -15,7 +14,7 @@ is-full-requires : tie.Need-is-full-requires
 is-full-requires c κs = search needs
 
 weld-cylindrical-box-requires : tie.Need-weld-cylindrical-box-requires
-weld-cylindrical-box-requires c κs = search needs
+weld-cylindrical-box-requires c κs = (c .before .before .before .before .before .before .before .before .before .before .before .before .pre .0, c .before .before .before .before .before .before .before .before .before .before .before .before .pre .1)
 
 same-length : tie.Need-same-length
 same-length c = c .before .before .before .before .before .before .weld-cylindrical-box .ensures .vlong
@@ -30,27 +29,20 @@ returns : tie.Need-returns
 returns c = shape-turned _ _ _ _ _ _ _ _ _ (c .before .before .before .before .before .before .before .before .before .before .before .before .before .before .before .min
     .ensures) (c .before .before .before .before .before .before .before .before .before .before .before .before .before .before .max .ensures) (c .before .before .before .before .before .before .before .before .before .before .before .before .before .if1 .taken) (c .before .before .before .before .before .before .before .before .before .before .is-full .ensures) (c .before .before .before .before .before .before .weld-cylindrical-box .ensures)
 
-slice-aggregate-weld-param-box : tie.Need-slice-aggregate-weld-param-box
-slice-aggregate-weld-param-box c = search needs
-
-slice-aggregate-weld-param-box-2 : tie.Need-slice-aggregate-weld-param-box-2
-slice-aggregate-weld-param-box-2 c = search needs
-
-weld-param-box-requires : tie.Need-weld-param-box-requires
-weld-param-box-requires c κs =
-    (c .before .before .before .before .before .before .before .before .before .before .before .pre .0, record { few = omega arith; tabled = tt; one = omega arith; long = omega arith })
+weld-flat-box-requires : tie.Need-weld-flat-box-requires
+weld-flat-box-requires c κs = c .before .before .before .before .before .before .before .before .before .pre .0
 
 same-length-4 : tie.Need-same-length-4
-same-length-4 c = c .before .before .before .before .before .before .before .weld-param-box .ensures .vlong
+same-length-4 c = c .before .before .before .before .before .before .weld-flat-box .ensures .vlong
 
 same-length-5 : tie.Need-same-length-5
-same-length-5 c = c .before .before .before .before .before .before .before .weld-param-box .ensures .tlong
+same-length-5 c = c .before .before .before .before .before .before .weld-flat-box .ensures .tlong
 
 same-length-6 : tie.Need-same-length-6
-same-length-6 c = c .before .before .before .before .before .before .before .weld-param-box .ensures .wlong
+same-length-6 c = c .before .before .before .before .before .before .weld-flat-box .ensures .wlong
 
 returns-2 : tie.Need-returns-2
-returns-2 c = shape-straight _ _ _ _ _ _ _ _ (c .before .before .before .before .before .before .before .before .before .before .before .before .before .before .before .min .ensures) (c .before .before .before .before .before .before .before .before .before .before .before .before .before .before .max .ensures) (c .before .before .before .before .before .before .before .before .before .before .before .before .before .if1 .left) (c .before .before .before .before .before .before .before .weld-param-box .ensures)
+returns-2 c = shape-straight _ _ _ _ _ _ _ _ (c .before .before .before .before .before .before .before .before .before .before .before .before .min .ensures) (c .before .before .before .before .before .before .before .before .before .before .before .max .ensures) (c .before .before .before .before .before .before .before .before .before .before .if1 .left) (c .before .before .before .before .before .before .weld-flat-box .ensures)
 
 pub weld-box-shape-spec : {M : Type 1} → statement M
 weld-box-shape-spec =
@@ -64,9 +56,7 @@ weld-box-shape-spec =
     same-length-2
     same-length-3
     returns
-    slice-aggregate-weld-param-box
-    slice-aggregate-weld-param-box-2
-    weld-param-box-requires
+    weld-flat-box-requires
     same-length-4
     same-length-5
     same-length-6

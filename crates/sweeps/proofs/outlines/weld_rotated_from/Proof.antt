@@ -1,16 +1,12 @@
 -- `sweeps::outlines::weld_rotated_from` meets its contract. Assumes nothing.
 use borrow.Author.Needs.{needs}
-use denote.Ref.{now}
 use native.Mathlib.Omega.{arith}
-use mathlib.Core.Path.{_≡_, refl, sym, ap, _∙_}
-use Prim.Native.Nat.{ℕ, _*_}
-use lib.ListN.{length}
-use lib.Seq.{length-take-le}
+use mathlib.Core.Path.{ap, _∙_}
 use Rattle.soups.specs.Arc.{arcSegments}
 use Rattle.soups.specs.Boxes.{isFull}
 use Rattle.surfaces.proofs.Tables.{filled-less}
 use Rattle.boxes.proofs.BoxRuns.{arc-few, arc-some}
-use Rattle.sweeps.proofs.OutlineRuns.{caps-front, rotated-within, rotated-none, rotated-full, rotated-part}
+use Rattle.sweeps.proofs.OutlineRuns.{rotated-within, rotated-none, rotated-runs}
 use Rattle.sweeps.proofs.outlines.weld_rotated_from.Statement.{statement}
 use Rattle.sweeps.proofs.outlines.weld_rotated_from.Tie as tie
 
@@ -30,88 +26,28 @@ arc-segments-requires : tie.Need-arc-segments-requires
 arc-segments-requires c κs = c .before .before .before .before .before .before .before .before .pre .1 .0
 
 fill-turns-requires : tie.Need-fill-turns-requires
-fill-turns-requires c κs =
-    let a = arc-few _ _ _ (c .before .arc-segments .ensures) (c .before .before .before .before .before .before .before .before .before .before .pre .1 .0) in
-    (a, (arc-some _ _ _ (c .before .arc-segments .ensures), a, omega arith))
+fill-turns-requires c κs = let a = arc-few _ _ _ (c .before .arc-segments .ensures) (c .before .before .before .before .before .before .before .before .before .before .pre .1 .0) in (a, (arc-some _ _ _ (c .before .arc-segments .ensures), a, omega arith))
 
-slice-aggregate-weld-grid : tie.Need-slice-aggregate-weld-grid
-slice-aggregate-weld-grid c = search needs
+slice-aggregate-weld-turned : tie.Need-slice-aggregate-weld-turned
+slice-aggregate-weld-turned c = search needs
 
-slice-aggregate-weld-grid-2 : tie.Need-slice-aggregate-weld-grid-2
-slice-aggregate-weld-grid-2 c = search needs
+slice-aggregate-weld-turned-2 : tie.Need-slice-aggregate-weld-turned-2
+slice-aggregate-weld-turned-2 c = search needs
 
-slice-aggregate-weld-grid-3 : tie.Need-slice-aggregate-weld-grid-3
-slice-aggregate-weld-grid-3 c = search needs
-
-weld-grid-requires : tie.Need-weld-grid-requires
-weld-grid-requires c κs =
-    let a = arc-few _ _ _ (c .before .before .before .before .before .before .before .before .arc-segments .ensures) (c .before .before .before .before .before .before .before .before .before .before .before .before .before .before .before .before .before .pre .1 .0) in (
-      c .before .before .before .before .before .before .before .before .before .before .before .before .before .before .before .before .before .pre .0,
-      (
-        omega (arith, c .before .before .before .before .before .before .before .before .before .before .before .before .before .before .before .before .before .pre .1 .1),
-        a,
-        omega (arith, a),
-        rotated-within _ _ _ _ _ (c .before .before .before .before .before .before .before .before .before .before .before .before .if1 .left) (c .before .before .before .before .before .before .before .before .before .before .before .before .before .before .before .before .before .pre .1 .0) (c .before .before .before .before .before .before .before .before .arc-segments .ensures) (omega arith),
-        c .before .before .before .before .before .before .fill-turns .ensures .0,
-      ),
-    )
+weld-turned-requires : tie.Need-weld-turned-requires
+weld-turned-requires c κs = let f = c .before .before .before .before .before .fill-turns .ensures .0 in (c .before .before .before .before .before .before .before .before .before .before .before .before .before .before .before .before .pre .0, record { corners = c .before .before .before .before .before .before .before .before .before .before .before .before .before .before .before .before .pre .1 .1; few = omega (arith, c .before .before .before .before .before .before .before .before .before .before .before .before .before .before .before .before .pre .1 .1); steps = arc-few _ _ _ (c .before .before .before .before .before .before .before .arc-segments .ensures) (c .before .before .before .before .before .before .before .before .before .before .before .before .before .before .before .before .pre .1 .0); within = rotated-within _ _ _ _ _ (c .before .before .before .before .before .before .before .before .before .before .before .if1 .left) (c .before .before .before .before .before .before .before .before .before .before .before .before .before .before .before .before .pre .1 .0) (c .before .before .before .before .before .before .before .arc-segments .ensures) (omega arith); tabled = f; near = λ i. (rotated-within _ _ _ _ _ (c .before .before .before .before .before .before .before .before .before .before .before .if1 .left) (c .before .before .before .before .before .before .before .before .before .before .before .before .before .before .before .before .pre .1 .0) (c .before .before .before .before .before .before .before .arc-segments .ensures) (omega arith), filled-less _ _ 0 _ (omega arith) f); far = λ i. (rotated-within _ _ _ _ _ (c .before .before .before .before .before .before .before .before .before .before .before .if1 .left) (c .before .before .before .before .before .before .before .before .before .before .before .before .before .before .before .before .pre .1 .0) (c .before .before .before .before .before .before .before .arc-segments .ensures) (omega arith), f) })
 
 same-length : tie.Need-same-length
-same-length c = c .before .before .before .before .before .before .before .before .weld-grid .ensures .vlong
+same-length c = c .before .before .before .before .before .before .weld-turned .ensures .vlong
 
 same-length-2 : tie.Need-same-length-2
-same-length-2 c = c .before .before .before .before .before .before .before .before .weld-grid .ensures .tlong
+same-length-2 c = c .before .before .before .before .before .before .weld-turned .ensures .tlong
 
 same-length-3 : tie.Need-same-length-3
-same-length-3 c = c .before .before .before .before .before .before .before .before .weld-grid .ensures .wlong
+same-length-3 c = c .before .before .before .before .before .before .weld-turned .ensures .wlong
 
 returns-2 : tie.Need-returns-2
-returns-2 c = rotated-full _ _ _ _ _ _ _ _ _ _ (c .before .before .before .before .before .before .before .before .before .before .before .before .before .before .before .before .before .before .before .before .before .if1
-    .left) (c .before .before .before .before .before .before .before .before .before .before .before .before .before .before .before .before .before .before .before .is-full .ensures ∙ ap isFull (c .before .before .before .before .before .before .before .before .before .before .before .before .before .before .before .before .before .before .before .before .abs .ensures)) (c .before .before .before .before .before .before .before .before .before .before .before .before .before .before .before .before .before .arc-segments .ensures ∙ ap (arcSegments (c .before .before .before .before .before .before .before .before .before .before .before .before .before .before .before .before .before .before .before .before .before .before .before .before .before .before .args .segments)) (c .before .before .before .before .before .before .before .before .before .before .before .before .before .before .before .before .before .before .turn-span .ensures)) (c .if2 .taken) (c .before .before .before .before .before .before .before .before .weld-grid .ensures)
-
-triangulate-polygon-requires : tie.Need-triangulate-polygon-requires
-triangulate-polygon-requires c κs = c .before .before .before .before .before .before .before .before .before .before .before .before .before .before .before .before .before .before .before .before .before .before .before .before .before .before .before .pre .1 .1
-
-mul-m : tie.Need-mul-m
-mul-m c = omega (arith, c .before .triangulate-polygon .ensures .1)
-
-slice-aggregate-weld-caps : tie.Need-slice-aggregate-weld-caps
-slice-aggregate-weld-caps c = search needs
-
-slice-aggregate-weld-caps-2 : tie.Need-slice-aggregate-weld-caps-2
-slice-aggregate-weld-caps-2 c = search needs
-
-array-share-prefix-caps : tie.Need-array-share-prefix-caps
-array-share-prefix-caps c = omega (arith, c .before .before .before .before .before .before .triangulate-polygon .ensures .1, c .before .before .before .before .before .before .triangulate-polygon .ensures .2)
-
-slice-aggregate-weld-caps-3 : tie.Need-slice-aggregate-weld-caps-3
-slice-aggregate-weld-caps-3 c = let t = c .before .before .before .before .before .before .before .triangulate-polygon in sym (length-take-le (3 * t .result .triangles) (t .last .1 .0) (omega
-    (arith, t .ensures .1, t .ensures .2)))
-
-weld-caps-requires : tie.Need-weld-caps-requires
-weld-caps-requires c κs =
-    let f = c .before .before .before .before .before .before .before .before .before .before .before .before .before .before .before .before .before .before .before .before .before .before .before .before .fill-turns .ensures .0 in (
-      c .before .before .before .before .before .before .before .before .before .before .before .before .before .before .before .before .before .weld-grid .ensures .ready,
-      (
-        λ i. (rotated-within _ _ _ _ _ (c .before .before .before .before .before .before .before .before .before .before .before .before .before .before .before .before .before .before .before .before .before .before .before .before .before .before .before .before .before .before .if1 .left) (c .before .before .before .before .before .before .before .before .before .before .before .before .before .before .before .before .before .before .before .before .before .before .before .before .before .before .before .before .before .before .before .before .before .before .before .pre .1 .0) (c .before .before .before .before .before .before .before .before .before .before .before .before .before .before .before .before .before .before .before .before .before .before .before .before .before .before .arc-segments .ensures) (omega arith), filled-less _ _ 0 _ (omega arith) f),
-        λ i. (rotated-within _ _ _ _ _ (c .before .before .before .before .before .before .before .before .before .before .before .before .before .before .before .before .before .before .before .before .before .before .before .before .before .before .before .before .before .before .if1 .left) (c .before .before .before .before .before .before .before .before .before .before .before .before .before .before .before .before .before .before .before .before .before .before .before .before .before .before .before .before .before .before .before .before .before .before .before .pre .1 .0) (c .before .before .before .before .before .before .before .before .before .before .before .before .before .before .before .before .before .before .before .before .before .before .before .before .before .before .arc-segments .ensures) (omega arith), f),
-      ),
-    )
-
-same-length-4 : tie.Need-same-length-4
-same-length-4 c = c .before .before .before .before .before .before .weld-caps .ensures .vlong ∙ c .before .before .before .before .before .before .before .before .before .before .before .before .before .before .before .before .before .before .before .before .before .before .before .before .weld-grid .ensures .vlong
-
-same-length-5 : tie.Need-same-length-5
-same-length-5 c = c .before .before .before .before .before .before .weld-caps .ensures .tlong ∙ c .before .before .before .before .before .before .before .before .before .before .before .before .before .before .before .before .before .before .before .before .before .before .before .before .weld-grid .ensures .tlong
-
-same-length-6 : tie.Need-same-length-6
-same-length-6 c = c .before .before .before .before .before .before .weld-caps .ensures .wlong ∙ c .before .before .before .before .before .before .before .before .before .before .before .before .before .before .before .before .before .before .before .before .before .before .before .before .weld-grid .ensures .wlong
-
-returns-3 : tie.Need-returns-3
-returns-3 c = rotated-part _ _ _ _ _ _ _ _ _ _ _ _ (c .before .before .before .before .before .before .before .before .before .before .before .before .before .before .before .before .before .before .before .before .before .before .before .before .before .before .before .before .before .before .before .before .before .before .before .before .before .if1 .left) (c .before .before .before .before .before .before .before .before .before .before .before .before .before .before .before .before .before .before .before .before .before .before .before .before .before .before .before .before .before .before .before .before .before .before .before .is-full .ensures ∙ ap isFull (c .before .before .before .before .before .before .before .before .before .before .before .before .before .before .before .before .before .before .before .before .before .before .before .before .before .before .before .before .before .before .before .before .before .before .before .before .abs .ensures))
-    (c .before .before .before .before .before .before .before .before .before .before .before .before .before .before .before .before .before .before .before .before .before .before .before .before .before .before .before .before .before .before .before .before .before .arc-segments .ensures ∙ ap (arcSegments (c .before .before .before .before .before .before .before .before .before .before .before .before .before .before .before .before .before .before .before .before .before .before .before .before .before .before .before .before .before .before .before .before .before .before .before .before .before .before .before .before .before .before .args .segments)) (c .before .before .before .before .before .before .before .before .before .before .before .before .before .before .before .before .before .before .before .before .before .before .before .before .before .before .before .before .before .before .before .before .before .before .turn-span .ensures)) (c .before .before .before .before .before .before .before .before .before .before .before .before .before .before .before .before .if2 .left)
-    (caps-front _ _ _ _ (c .before .before .before .before .before .before .before .before .before .before .before .before .before .before .triangulate-polygon .ensures .0)) (c .before .before .before .before .before .before .before .before .before .before .before .before .before .before .before .before .before .before .before .before .before .before .before .before .weld-grid .ensures)
-    (c .before .before .before .before .before .before .weld-caps .ensures)
+returns-2 c = rotated-runs _ _ _ _ _ _ _ _ _ _ (c .before .before .before .before .before .before .before .before .before .before .before .before .before .before .before .before .before .before .if1 .left) (c .before .before .before .before .before .before .before .before .before .before .before .before .before .before .before .before .is-full .ensures ∙ ap isFull (c .before .before .before .before .before .before .before .before .before .before .before .before .before .before .before .before .before .abs .ensures)) (c .before .before .before .before .before .before .before .before .before .before .before .before .before .before .arc-segments .ensures ∙ ap (arcSegments (c .before .before .before .before .before .before .before .before .before .before .before .before .before .before .before .before .before .before .before .before .before .before .before .args .segments)) (c .before .before .before .before .before .before .before .before .before .before .before .before .before .before .before .turn-span .ensures)) (c .before .before .before .before .before .before .weld-turned .ensures)
 
 pub weld-rotated-from-spec : {M : Type 1} → statement M
 weld-rotated-from-spec =
@@ -123,22 +59,10 @@ weld-rotated-from-spec =
     turn-span-requires
     arc-segments-requires
     fill-turns-requires
-    slice-aggregate-weld-grid
-    slice-aggregate-weld-grid-2
-    slice-aggregate-weld-grid-3
-    weld-grid-requires
+    slice-aggregate-weld-turned
+    slice-aggregate-weld-turned-2
+    weld-turned-requires
     same-length
     same-length-2
     same-length-3
-    returns-2
-    triangulate-polygon-requires
-    mul-m
-    slice-aggregate-weld-caps
-    slice-aggregate-weld-caps-2
-    array-share-prefix-caps
-    slice-aggregate-weld-caps-3
-    weld-caps-requires
-    same-length-4
-    same-length-5
-    same-length-6
-    returns-3)
+    returns-2)

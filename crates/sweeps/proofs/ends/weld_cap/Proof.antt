@@ -1,11 +1,11 @@
--- `sweeps::outlines::weld_cap` meets its contract. Assumes nothing.
+-- `sweeps::ends::weld_cap` meets its contract. Assumes nothing.
 use denote.Ref.{now}
 use mathlib.Core.Path.{_∙_}
 use Prim.Native.Nat.{ℕ}
 use Rattle.soups.specs.Surface.{surfaceAt}
 use Rattle.sweeps.proofs.CapRuns.{cap-one, cap-two}
-use Rattle.sweeps.proofs.outlines.weld_cap.Statement.{statement}
-use Rattle.sweeps.proofs.outlines.weld_cap.Tie as tie
+use Rattle.sweeps.proofs.ends.weld_cap.Statement.{statement}
+use Rattle.sweeps.proofs.ends.weld_cap.Tie as tie
 
 surface-point-requires : tie.Need-surface-point-requires
 surface-point-requires c κs = c .before .before .before .before .before .before .pre .1 .0 (c .before .before .before .before .before .before .args .a)

@@ -1,4 +1,4 @@
--- `sweeps::outlines::weld_caps` meets its contract. Assumes nothing.
+-- `sweeps::ends::weld_caps` meets its contract. Assumes nothing.
 use denote.Ref.{now}
 use native.Mathlib.Omega.{arith}
 use mathlib.Core.Path.{_≡_, refl}
@@ -9,8 +9,8 @@ use Rattle.weld.specs.Rep.{held, Runs}
 use Rattle.soups.specs.Surface.{surfaceAt}
 use Rattle.sweeps.specs.Caps.{capsOf}
 use Rattle.sweeps.proofs.CapRuns.{caps-none, caps-more, caps-all}
-use Rattle.sweeps.proofs.outlines.weld_caps.Statement.{statement}
-use Rattle.sweeps.proofs.outlines.weld_caps.Tie as tie
+use Rattle.sweeps.proofs.ends.weld_caps.Statement.{statement}
+use Rattle.sweeps.proofs.ends.weld_caps.Tie as tie
 
 abbrev Inv-loop : tie.InvT-loop
 Inv-loop vertices₀ triangles₀ work₀ s corners rows cols caps both near far st₀ n t₀ vertices triangles work st t =

@@ -1,8 +1,8 @@
--- `solids::solid::weld_rot_poly` meets its contract. Assumes nothing.
+-- `solids::outlines::weld_rot_poly` meets its contract. Assumes nothing.
 use native.Mathlib.Omega.{arith}
 use Rattle.solids.proofs.ShapeRuns.{rot-runs, rot-same, rot-axis, rot-normal}
-use Rattle.solids.proofs.solid.weld_rot_poly.Statement.{statement}
-use Rattle.solids.proofs.solid.weld_rot_poly.Tie as tie
+use Rattle.solids.proofs.outlines.weld_rot_poly.Statement.{statement}
+use Rattle.solids.proofs.outlines.weld_rot_poly.Tie as tie
 
 weld-rotated-requires : tie.Need-weld-rotated-requires
 weld-rotated-requires c κs = (

@@ -1,7 +1,7 @@
--- `solids::solid::direction` meets its contract. Assumes nothing.
+-- `solids::outlines::direction` meets its contract. Assumes nothing.
 use native.Mathlib.Omega.{arith}
-use Rattle.solids.proofs.solid.direction.Statement.{statement}
-use Rattle.solids.proofs.solid.direction.Tie as tie
+use Rattle.solids.proofs.outlines.direction.Statement.{statement}
+use Rattle.solids.proofs.outlines.direction.Tie as tie
 
 returns : tie.Need-returns
 returns c = (omega arith, omega arith)

@@ -1,0 +1,9 @@
+-- The quad of four points. Definitions only.
+use Rattle.math.specs.declared.Vec3.{Vec3}
+use Rattle.balance.specs.Grid.{quad}
+use Rattle.soups.specs.Grid.{Soup}
+use Rattle.boxes.specs.declared.flat.Four.{Four}
+
+-- its two triangles
+abbrev pub quadOf : Four → Soup
+quadOf f = quad (f .a) (f .b) (f .c) (f .d)

@@ -1,0 +1,156 @@
+-- `solids::solid::weld_solid` meets its contract. Assumes nothing.
+use borrow.Author.Needs.{needs}
+use lib.Ieee.{ofBits}
+use Rattle.solids.proofs.ShapeRuns.{sphere-soup, cylinder-soup, shell-soup, solid-as, solid-none}
+use Rattle.solids.proofs.solid.weld_solid.Statement.{statement}
+use Rattle.solids.proofs.solid.weld_solid.Tie as tie
+
+enum-known-shape : tie.Need-enum-known-shape
+enum-known-shape c = search needs
+
+weld-box-shape-requires : tie.Need-weld-box-shape-requires
+weld-box-shape-requires c κs = (c .before .before .before .before .before .before .before .before .before .pre .0, c .before .before .before .before .before .before .before .before .before .pre .1 .segments)
+
+enum-known-shape-2 : tie.Need-enum-known-shape-2
+enum-known-shape-2 c = search needs
+
+to-cartesian-requires : tie.Need-to-cartesian-requires
+to-cartesian-requires c κs = tt
+
+weld-sphere-requires : tie.Need-weld-sphere-requires
+weld-sphere-requires c κs = (c .before .before .before .before .before .before .before .before .before .before .pre .0, (c .before .before .before .before .before .before .before .before .before .before .pre .1 .segments, c .before .before .before .before .before .before .before .before .before .before .pre .1 .rings))
+
+enum-known-shape-3 : tie.Need-enum-known-shape-3
+enum-known-shape-3 c = search needs
+
+weld-spherical-shell-requires : tie.Need-weld-spherical-shell-requires
+weld-spherical-shell-requires c κs = (c .before .before .before .before .before .before .before .before .before .pre .0, (c .before .before .before .before .before .before .before .before .before .pre .1 .segments, c .before .before .before .before .before .before .before .before .before .pre .1 .rings))
+
+enum-known-shape-4 : tie.Need-enum-known-shape-4
+enum-known-shape-4 c = search needs
+
+to-cartesian-requires-2 : tie.Need-to-cartesian-requires-2
+to-cartesian-requires-2 c κs = tt
+
+to-cartesian-requires-3 : tie.Need-to-cartesian-requires-3
+to-cartesian-requires-3 c κs = tt
+
+weld-cylinder-requires : tie.Need-weld-cylinder-requires
+weld-cylinder-requires c κs = (c .before .before .before .before .before .before .before .before .before .before .before .pre .0, c .before .before .before .before .before .before .before .before .before .before .before .pre .1 .segments)
+
+enum-known-shape-5 : tie.Need-enum-known-shape-5
+enum-known-shape-5 c = search needs
+
+to-cartesian-requires-4 : tie.Need-to-cartesian-requires-4
+to-cartesian-requires-4 c κs = tt
+
+to-cartesian-requires-5 : tie.Need-to-cartesian-requires-5
+to-cartesian-requires-5 c κs = tt
+
+weld-cylinder-requires-2 : tie.Need-weld-cylinder-requires-2
+weld-cylinder-requires-2 c κs = (c .before .before .before .before .before .before .before .before .before .before .before .pre .0, c .before .before .before .before .before .before .before .before .before .before .before .pre .1 .segments)
+
+same-length : tie.Need-same-length
+same-length c = c .before .before .before .before .before .before .weld-box-shape .ensures .vlong
+
+same-length-2 : tie.Need-same-length-2
+same-length-2 c = c .before .before .before .before .before .before .weld-box-shape .ensures .tlong
+
+same-length-3 : tie.Need-same-length-3
+same-length-3 c = c .before .before .before .before .before .before .weld-box-shape .ensures .wlong
+
+returns : tie.Need-returns
+returns c = solid-as _ _ _ _ _ _ (c .before .before .before .before .before .before .before .before .before .before .before .shape .given .1) (c .before .before .before .before .before .before .weld-box-shape .ensures)
+
+same-length-4 : tie.Need-same-length-4
+same-length-4 c = c .before .before .before .before .before .before .weld-sphere .ensures .vlong
+
+same-length-5 : tie.Need-same-length-5
+same-length-5 c = c .before .before .before .before .before .before .weld-sphere .ensures .tlong
+
+same-length-6 : tie.Need-same-length-6
+same-length-6 c = c .before .before .before .before .before .before .weld-sphere .ensures .wlong
+
+returns-2 : tie.Need-returns-2
+returns-2 c = solid-as _ _ _ _ _ _ (c .before .before .before .before .before .before .before .before .before .before .before .before .shape2 .given .1) (sphere-soup _ _ _ _ _ _ _ _ (c .before .before .before .before .before .before .before .before .before .before .to-cartesian .ensures) (c .before .before .before .before .before .before .weld-sphere .ensures))
+
+same-length-7 : tie.Need-same-length-7
+same-length-7 c = c .before .before .before .before .before .before .weld-spherical-shell .ensures .vlong
+
+same-length-8 : tie.Need-same-length-8
+same-length-8 c = c .before .before .before .before .before .before .weld-spherical-shell .ensures .tlong
+
+same-length-9 : tie.Need-same-length-9
+same-length-9 c = c .before .before .before .before .before .before .weld-spherical-shell .ensures .wlong
+
+returns-3 : tie.Need-returns-3
+returns-3 c = solid-as _ _ _ _ _ _ (c .before .before .before .before .before .before .before .before .before .before .before .shape3 .given .1) (c .before .before .before .before .before .before .weld-spherical-shell .ensures)
+
+same-length-10 : tie.Need-same-length-10
+same-length-10 c = c .before .before .before .before .before .before .weld-cylinder .ensures .vlong
+
+same-length-11 : tie.Need-same-length-11
+same-length-11 c = c .before .before .before .before .before .before .weld-cylinder .ensures .tlong
+
+same-length-12 : tie.Need-same-length-12
+same-length-12 c = c .before .before .before .before .before .before .weld-cylinder .ensures .wlong
+
+returns-4 : tie.Need-returns-4
+unfolding ofBits
+returns-4 c = solid-as _ _ _ _ _ _ (c .before .before .before .before .before .before .before .before .before .before .before .before .before .shape4 .given .1) (cylinder-soup _ _ _ _ _ _ _ _ _ (c .before .before .before .before .before .before .before .before .before .before .before .to-cartesian2 .ensures) (c .before .before .before .before .before .before .before .before .before .before .to-cartesian3 .ensures) (c .before .before .before .before .before .before .weld-cylinder .ensures))
+
+same-length-13 : tie.Need-same-length-13
+same-length-13 c = c .before .before .before .before .before .before .weld-cylinder2 .ensures .vlong
+
+same-length-14 : tie.Need-same-length-14
+same-length-14 c = c .before .before .before .before .before .before .weld-cylinder2 .ensures .tlong
+
+same-length-15 : tie.Need-same-length-15
+same-length-15 c = c .before .before .before .before .before .before .weld-cylinder2 .ensures .wlong
+
+returns-5 : tie.Need-returns-5
+returns-5 c = solid-as _ _ _ _ _ _ (c .before .before .before .before .before .before .before .before .before .before .before .before .before .shape5 .given .1) (shell-soup _ _ _ _ _ _ _ _ _ _ (c .before .before .before .before .before .before .before .before .before .before .before .to-cartesian4 .ensures) (c .before .before .before .before .before .before .before .before .before .before .to-cartesian5 .ensures) (c .before .before .before .before .before .before .weld-cylinder2 .ensures))
+
+returns-6 : tie.Need-returns-6
+returns-6 c = solid-none (c .before .before .before .before .args .shape) _ _ _ (c .before .before .before .before .pre .0) (c .match .keys6)
+
+pub weld-solid-spec : {M : Type 1} → statement M
+weld-solid-spec =
+    tie.close
+    (tie.spec
+    enum-known-shape
+    weld-box-shape-requires
+    enum-known-shape-2
+    to-cartesian-requires
+    weld-sphere-requires
+    enum-known-shape-3
+    weld-spherical-shell-requires
+    enum-known-shape-4
+    to-cartesian-requires-2
+    to-cartesian-requires-3
+    weld-cylinder-requires
+    enum-known-shape-5
+    to-cartesian-requires-4
+    to-cartesian-requires-5
+    weld-cylinder-requires-2
+    same-length
+    same-length-2
+    same-length-3
+    returns
+    same-length-4
+    same-length-5
+    same-length-6
+    returns-2
+    same-length-7
+    same-length-8
+    same-length-9
+    returns-3
+    same-length-10
+    same-length-11
+    same-length-12
+    returns-4
+    same-length-13
+    same-length-14
+    same-length-15
+    returns-5
+    returns-6)

@@ -1,0 +1,39 @@
+-- The soups of the shapes that have one part, as `partsOf` of `outcome` has them: of those without a list, and of outlines. Definitions only.
+use mathlib.Core.Bool.{Bool}
+use mathlib.Core.List.{List, []}
+use Prim.Native.Nat.{ℕ}
+use lib.Ieee.{Float}
+use Rattle.shape.specs.declared.Shape.{Shape}
+use Rattle.shape.specs.declared.Shape.the-variants.{Box, MultiBox, Sphere, SphericalShell, Cylinder, CylindricalShell, Polygon, LinPoly, RotPoly, Wire}
+use Rattle.shape.specs.declared.TessellationOptions.{TessellationOptions}
+use Rattle.soups.specs.Grid.{Soup}
+use Rattle.soups.specs.Boxes.{boxSoup}
+use Rattle.soups.specs.Sphere.{sphereSoup, sphericalShellSoup}
+use Rattle.soups.specs.Cylinder.{cylinderSoup, cylindricalShellSoup}
+use Rattle.soups.specs.Polygons.{polygonSoup, linPolySoup, rotPolySoup}
+
+-- a box, a sphere, a cylinder or a shell
+abbrev pub solidSoup : Bool → Shape → TessellationOptions → Soup
+solidSoup cylindrical (Box start stop) o = boxSoup cylindrical start stop (o .segments)
+solidSoup cylindrical MultiBox o = []
+solidSoup cylindrical (Sphere center radius) o = sphereSoup cylindrical center radius (o .segments) (o .«sphere_rings»)
+solidSoup cylindrical (SphericalShell center radius width) o = sphericalShellSoup cylindrical center radius width (o .segments) (o .«sphere_rings»)
+solidSoup cylindrical (Cylinder start stop radius) o = cylinderSoup cylindrical start stop radius (o .segments)
+solidSoup cylindrical (CylindricalShell start stop radius width) o = cylindricalShellSoup cylindrical start stop radius width (o .segments)
+solidSoup cylindrical (Polygon normal elevation) o = []
+solidSoup cylindrical (LinPoly normal elevation length) o = []
+solidSoup cylindrical (RotPoly normal elevation axis start stop) o = []
+solidSoup cylindrical (Wire radius) o = []
+
+-- an outline with its lent list v
+abbrev pub outlineSoup : Shape → List Float → ℕ → Soup
+outlineSoup (Box start stop) v segments = []
+outlineSoup MultiBox v segments = []
+outlineSoup (Sphere center radius) v segments = []
+outlineSoup (SphericalShell center radius width) v segments = []
+outlineSoup (Cylinder start stop radius) v segments = []
+outlineSoup (CylindricalShell start stop radius width) v segments = []
+outlineSoup (Polygon normal elevation) v segments = polygonSoup normal v elevation
+outlineSoup (LinPoly normal elevation length) v segments = linPolySoup normal v elevation length
+outlineSoup (RotPoly normal elevation axis start stop) v segments = rotPolySoup normal axis v start stop segments
+outlineSoup (Wire radius) v segments = []
