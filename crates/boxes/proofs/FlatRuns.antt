@@ -22,12 +22,6 @@ use Rattle.boxes.specs.Flat.{quadOf}
 pub base-small : (w : Welder) (vs : List Float) (ws : List ℕ) → Linked w vs ws → w .base < 2 ^ 32
 base-small w vs ws L = omega (arith, L .chained .based, L .chained .within, L .places, places-limit vs)
 
--- `three` of one value
-pub three-same : {A : Type 0} (a : A) (k : ℕ) → a ≡ three a a a k
-three-same a zero = refl
-three-same a (suc zero) = refl
-three-same a (suc (suc k)) = refl
-
 -- the quad in either order
 pub order-high : (side : Bool) (a b c d : Vec3) → side ≡ true → quadOf (record { a = a; b = b; c = c; d = d }) ≡ turned (not side) a b c d
 order-high side a b c d e = ap (λ (t : Bool). turned (not t) a b c d) (sym e)

@@ -1,5 +1,4 @@
 -- The quad of four points. Definitions only.
-use Rattle.math.specs.declared.Vec3.{Vec3}
 use Rattle.balance.specs.Grid.{quad}
 use Rattle.soups.specs.Grid.{Soup}
 use Rattle.boxes.specs.declared.flat.Four.{Four}

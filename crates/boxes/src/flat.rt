@@ -2,7 +2,6 @@
 ghost use mathlib.Core.Path.{_≡_};
 ghost use mathlib.Core.Bool.{false, not};
 ghost use Prim.Native.Nat.{_<_, _^_};
-ghost use Rattle.math.specs.declared.Vec3.{Vec3};
 ghost use Rattle.math.specs.Vec.{axis};
 ghost use Rattle.weld.specs.Rep.{held, Ready, Runs};
 ghost use Rattle.grids.specs.Cell.{turned};

@@ -11,7 +11,6 @@ use Rattle.soups.specs.Surface.{mapped}
 use Rattle.boxes.specs.Box.{faceOf}
 use Rattle.boxes.proofs.FaceRuns.{faces-more, box-runs, guesses-kept}
 use lib.ListN.{length}
-use borrow.Author.Needs.{needs}
 use Rattle.boxes.proofs.faces.weld_param_box.Statement.{statement}
 use Rattle.boxes.proofs.faces.weld_param_box.Tie as tie
 

@@ -1,6 +1,5 @@
 -- `boxes::flat::weld_flat_box` meets its contract. Assumes nothing.
 use native.Mathlib.Omega.{arith}
-use mathlib.Core.Path.{_≡_, refl, _∙_}
 use mathlib.Core.Bool.{false}
 use Prim.Native.Nat.{_-_, _≤_, zero-le}
 use Rattle.balance.specs.Grid.{upto}
@@ -11,7 +10,6 @@ use Rattle.soups.specs.Surface.{mapped}
 use Rattle.boxes.specs.Box.{faceOf}
 use Rattle.boxes.proofs.FaceRuns.{faces-more, box-runs}
 use Rattle.soups.specs.declared.Chart.the-variants.{Cartesian}
-use borrow.Author.Needs.{needs}
 use Rattle.boxes.proofs.flat.weld_flat_box.Statement.{statement}
 use Rattle.boxes.proofs.flat.weld_flat_box.Tie as tie
 
@@ -26,7 +24,7 @@ loop-holds : tie.Need-loop-holds Inv-loop μ-loop
 loop-holds c = (zero-le, runs-none _ (c .before .before .before .pre))
 
 weld-face-requires : tie.Need-weld-face-requires Inv-loop μ-loop
-weld-face-requires c κs = (c .before .before .before .before .loop .inv .1 .ready, c .before .before .before .loop-test .taken)
+weld-face-requires c κs = (c .before .before .before .before .loop .inv .1 .ready, omega (arith, c .before .before .before .loop-test .taken))
 
 add-f : tie.Need-add-f Inv-loop μ-loop
 add-f c = omega (arith, c .before .before .before .before .before .before .before .before .before .before .loop-test .taken)
