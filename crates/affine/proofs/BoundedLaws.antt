@@ -1,10 +1,10 @@
 -- A bounded matrix keeps vertices within the bounds finite. Assumes nothing.
-use mathlib.Core.Path.{_≡_, refl, sym, ap, _∙_, subst}
+use mathlib.Core.Path.{_≡_, refl, sym, ap, _∙_}
 use mathlib.Core.Bool.{Bool, true, false, _&&_, false≢true}
 use mathlib.Core.List.{List, [], _∷_, map}
 use Prim.Native.Nat.{ℕ, _+_, _*_, _≤_, _<_}
 use native.Mathlib.Omega.{arith}
-use lib.ListN.{length, take, getD}
+use lib.ListN.{length, take}
 use lib.Dec.{T}
 use lib.Ieee.{Float, nan}
 use lib.Ieee.Bits.{is-true}
@@ -22,16 +22,16 @@ use Rattle.bounded.specs.Laws.{within-finite, every-finite, row-finite}
 use Rattle.affine.specs.Affine.{Affine, affinePoint, RowsWithin, BoundedMatrix, FiniteVertices, Tested}
 use Rattle.affine.proofs.AffineLaws.{affine-point}
 
-pub first : (a b : Bool) → (a && b) ≡ true → a ≡ true
-first true b e = refl
-first false b e = e
+pub and-left : (a b : Bool) → (a && b) ≡ true → a ≡ true
+and-left true b e = refl
+and-left false b e = e
 
-pub second : (a b : Bool) → (a && b) ≡ true → b ≡ true
-second true b e = e
-second false b e = absurd (false≢true e)
+pub and-right : (a b : Bool) → (a && b) ≡ true → b ≡ true
+and-right true b e = e
+and-right false b e = absurd (false≢true e)
 
-both : (a b : Bool) → a ≡ true → b ≡ true → (a && b) ≡ true
-both a b p q = rw (p, q)
+and-both : (a b : Bool) → a ≡ true → b ≡ true → (a && b) ≡ true
+and-both a b p q = rw (p, q)
 
 -- the test of the first three rows
 pub rows-within : (a : Mat4) (r : Bool) → 12 ≤ length (a .m) → r ≡ every within (take 12 (a .m)) → r ≡ true → RowsWithin a
@@ -39,7 +39,7 @@ rows-within a r l e t i j u v = true-T (within (entry a i j)) (every-at within (
 
 -- both tests of the matrix
 pub is-bounded : (a : Mat4) (p q : Bool) → (p ≡ true → Affine a) → (q ≡ true → RowsWithin a) → (p && q) ≡ true → BoundedMatrix a
-is-bounded a p q h k t = record { affine = h (first p q t); rows = k (second p q t) }
+is-bounded a p q h k t = record { affine = h (and-left p q t); rows = k (and-right p q t) }
 
 module _ (a : Mat4) (h : BoundedMatrix a) where
   row : (i : ℕ) → i < 3 → (p : Vec3) → T (within (p .x)) → T (within (p .y)) → T (within (p .z)) → finite (along (rowOf a i) p) ≡ true
@@ -52,8 +52,8 @@ module _ (a : Mat4) (h : BoundedMatrix a) where
   unfolding vFinite affinePoint
   point p x y z =
       ap {B = Bool} vFinite (sym (affine-point a (h .affine) p (within-finite (p .x) x) (within-finite (p .y) y) (within-finite (p .z) z)))
-      ∙ both (finite (along (rowOf a 0) p) && finite (along (rowOf a 1) p)) (finite (along (rowOf a 2) p))
-      (both (finite (along (rowOf a 0) p)) (finite (along (rowOf a 1) p)) (row 0 (omega arith) p x y z) (row 1 (omega arith) p x y z)) (row 2 (omega arith) p x y z)
+      ∙ and-both (finite (along (rowOf a 0) p) && finite (along (rowOf a 1) p)) (finite (along (rowOf a 2) p))
+      (and-both (finite (along (rowOf a 0) p)) (finite (along (rowOf a 1) p)) (row 0 (omega arith) p x y z) (row 1 (omega arith) p x y z)) (row 2 (omega arith) p x y z)
 
   pub keeps : (l : List Float) → every within l ≡ true → every vFinite (map (transformPoint a) (points l)) ≡ true
   unfolding every
@@ -61,13 +61,13 @@ module _ (a : Mat4) (h : BoundedMatrix a) where
   keeps (x ∷ []) e = refl
   keeps (x ∷ y ∷ []) e = refl
   keeps (x ∷ y ∷ z ∷ l) e =
-      let f = second (within x) (within y && (within z && every within l)) e in
-      let g = second (within y) (within z && every within l) f in
+      let f = and-right (within x) (within y && (within z && every within l)) e in
+      let g = and-right (within y) (within z && every within l) f in
       let p : Vec3 = record { x = x; y = y; z = z } in
-      both (vFinite (transformPoint a p)) (every vFinite (map (transformPoint a) (points l)))
-      (point p (true-T (within x) (first (within x) (within y && (within z && every within l)) e)) (true-T (within y) (first (within y) (within z && every within l) f))
-      (true-T (within z) (first (within z) (every within l) g)))
-      (keeps l (second (within z) (every within l) g))
+      and-both (vFinite (transformPoint a p)) (every vFinite (map (transformPoint a) (points l)))
+      (point p (true-T (within x) (and-left (within x) (within y && (within z && every within l)) e)) (true-T (within y) (and-left (within y) (within z && every within l) f))
+      (true-T (within z) (and-left (within z) (every within l) g)))
+      (keeps l (and-right (within z) (every within l) g))
 
 -- what the passes over the vertices show
 pub tested-small : (vs : List Float) (n : ℕ) (r : Bool) → 3 * n ≤ length vs → r ≡ every within (take (3 * n) vs) → r ≡ true → Tested vs n true

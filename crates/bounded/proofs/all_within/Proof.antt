@@ -2,8 +2,8 @@
 use denote.Ref.{now}
 use mathlib.Core.Path.{_≡_, refl}
 use mathlib.Core.Bool.{_&&_}
-use Prim.Native.Nat.{_≤_, _<_, _-_}
-use lib.ListN.{length, take, drop, getD, length-take}
+use Prim.Native.Nat.{_≤_, _-_}
+use lib.ListN.{take, drop, getD, length-take}
 use lib.Ieee.{nan}
 use Rattle.bounded.specs.Bounded.{within}
 use Rattle.slices.specs.Every.{every}

@@ -4,7 +4,7 @@ use mathlib.Core.Path.{sym}
 use Prim.Native.Nat.{_*_}
 use lib.ListN.{take}
 use borrow.Author.Needs.{needs}
-use Rattle.affine.proofs.BoundedLaws.{first, second, keeps}
+use Rattle.affine.proofs.BoundedLaws.{and-left, and-right, keeps}
 use Rattle.moves.proofs.keep_finite.Statement.{statement}
 use Rattle.moves.proofs.keep_finite.Tie as tie
 
@@ -15,8 +15,8 @@ returns : tie.Need-returns
 returns c =
     let a = c .before .before .before .args in
     let b = c .before .is-bounded in
-    let h = b .ensures (second (a .small) (b .result) (c .if1 .taken)) in
-    sym (keeps (a .a) h (take (3 * a .n) (now (a .vertices))) (c .before .before .before .pre .bounded (first (a .small) (b .result) (c .if1 .taken))))
+    let h = b .ensures (and-right (a .small) (b .result) (c .if1 .taken)) in
+    sym (keeps (a .a) h (take (3 * a .n) (now (a .vertices))) (c .before .before .before .pre .bounded (and-left (a .small) (b .result) (c .if1 .taken))))
 
 is-affine-requires : tie.Need-is-affine-requires
 is-affine-requires c κs = tt
