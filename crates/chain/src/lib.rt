@@ -165,6 +165,18 @@ pub fn place_of(
     }
 }
 
+// Writes p as vertex `count` and puts it at the head of its bucket, with no search: p equals no vertex of the part, as the caller knows.
+pub fn add_new(vertices: &mut [f64], work: &mut [u32], places: usize, count: usize, p: Vec3)
+    requires { ⌜ (3 * places ≤ length (now vertices)) × (2 * places ≤ length (now work)) ⌝ }
+    requires { ⌜ (count < places) × (places < 2 ^ 32) × Clean p ⌝ }
+    ensures { λ _. ⌜ bucketOf places p < places ⌝ }
+    ensures { λ _. ⌜ now (vertices .exit) ≡ placed (now (vertices .entry)) count p ⌝ }
+    ensures { λ _. ⌜ now (work .exit) ≡ linkedIn (now (work .entry)) places count (bucketOf places p) ⌝ }
+{
+    let bucket = bucket_of(p, places);
+    append(vertices, work, places, count, bucket, p);
+}
+
 // The head of p's chain: one more than the number of a vertex, or 0.
 pub fn head(work: &[u32], places: usize, p: Vec3) -> usize
     requires { ⌜ (0 < places) × (places < 2 ^ 32) × Clean p ⌝ }

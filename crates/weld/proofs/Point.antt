@@ -2,8 +2,9 @@
 use mathlib.Core.Path.{_≡_, refl, sym, ap, _∙_, subst}
 use mathlib.Core.Bool.{Bool, true, false}
 use mathlib.Core.List.{List, [], _∷_, _++_, map, append-assoc}
-use mathlib.Core.Logic.{inl, inr}
+use mathlib.Core.Logic.{⊎-elim, inl, inr}
 use Prim.Native.Nat.{ℕ, _+_, _-_, _*_, _≤_, _<_, _^_}
+use native.Mathlib.Nat.{eq-or-lt-of-le}
 use native.Mathlib.Omega.{arith}
 use lib.ListN.{length, getD, take, length-set, length-append, length-map}
 use lib.Seq.{getD-append-add}
@@ -17,10 +18,13 @@ use Rattle.chain.specs.declared.Found.the-variants.{Missing}
 use Rattle.weld.specs.declared.Welder.{Welder}
 use Rattle.chain.specs.Points.{Clean, vertexAt, placed}
 use Rattle.chain.specs.Hash.{bucketOf, linkedIn, FirstAt, Sought}
+use Rattle.bounds.specs.declared.Bounds.{Bounds}
+use Rattle.bounds.specs.Bounds.{inside, Widened}
 use Rattle.weld.specs.Rep.{Held, held, Linked, Holds, Over, Rep}
-use Rattle.weld.specs.Steps.{shut, withVertex, PointRuns}
+use Rattle.weld.specs.Steps.{shut, more, withVertex, PointRuns}
 use Rattle.weld.proofs.Places.{take-three, take-vertex, flatV-at, places-limit, places-long}
-use Rattle.chain.proofs.Clean.{clean-self}
+use Rattle.chain.proofs.Clean.{clean-self, same-data}
+use Rattle.chain.proofs.Places.{placed-at, placed-before}
 use Rattle.chain.proofs.Chains.{not-both, first-stays, first-new, chain-more}
 
 -- ---- a look-up in the slice is a look-up in the part
@@ -135,7 +139,7 @@ module _ (w : Welder) (vs : List Float) (ws : List ℕ) (L : Linked w vs ws) (p 
   pub point-full : w .room ≡ true → Sought vs (w .base) (w .count) p Missing → w .places ≤ w .count → PointRuns p w vs ws (record { number = 0; st = shut w }) vs ws
   point-full e F k =
       record {
-        linked = record { chained = L .chained; places = L .places };
+        linked = record { chained = L .chained; places = L .places; bounded = L .bounded };
         faces = refl;
         finite = refl;
         sticky = λ q. e;
@@ -151,46 +155,58 @@ module _ (w : Welder) (vs : List Float) (ws : List ℕ) (L : Linked w vs ws) (p 
         stays = λ q. absurd (not-both false q refl);
       }
 
-  abbrev next : Welder
-  next = record { base = w .base; count = w .count + 1; places = w .places; faces = w .faces; finite = w .finite; room = w .room }
-
   abbrev vs₁ : List Float
   vs₁ = placed vs (w .count) p
 
-  held-more : (M : Mesh) (ts ws′ : List ℕ) → w .count < w .places → Holds M (here ts) → Holds (more-vertex M p) (held next vs₁ ts ws′)
-  held-more M ts ws′ k H =
-      record {
-        vertices =
-            flatV-append (M .vertices) (p ∷ [])
-            ∙ ap (λ (l : List Float). l ++ (p .x ∷ p .y ∷ p .z ∷ [])) (H .vertices)
-            ∙ sym (ap (λ (n : ℕ). take n vs₁) (three-more (w .count)) ∙ take-three vs (3 * w .count) (p .x) (p .y) (p .z) (omega (arith, L .chained .room)));
-        count = length-append (M .vertices) (p ∷ []) ∙ ap (λ (n : ℕ). n + 1) (H .count);
-        triangles = H .triangles;
-        faces = H .faces;
-      }
+  -- a point outside of the bounds equals no vertex of this part
+  pub outside : Clean p → inside (w .bounds) p ≡ false → Sought vs (w .base) (w .count) p Missing
+  outside cp o m a k s =
+      not-both (inside (w .bounds) p) (sym (ap (inside (w .bounds)) (same-data (vertexAt vs m) p (L .chained .clean m k) cp s)) ∙ L .bounded m a k) o
 
-  pub point-new : Clean p → (b : ℕ) → b ≡ bucketOf (w .places) p → b < w .places → w .room ≡ true → Sought vs (w .base) (w .count) p Missing → w .count < w .places
-      → PointRuns p w vs ws (record { number = w .count; st = next }) vs₁ (linkedIn ws (w .places) (w .count) b)
-  point-new cp b eb bl e F k =
-      record {
-        linked = record {
-          chained = chain-more vs ws (w .places) (w .base) (w .count) (L .chained) p cp k b eb bl F;
-          places = L .places ∙ places-long vs vs₁ (sym (simp length-set));
-        };
-        faces = refl;
-        finite = refl;
-        sticky = λ q. q;
-        small = omega (arith, L .places, places-limit vs);
-        rep = λ D S ts R. record {
-          base = R .base;
-          holds = λ q. subst (λ (M : Mesh). Holds M (held next vs₁ ts (linkedIn ws (w .places) (w .count) b))) (sym (grown D S p (unseen D S ts e F R)))
-              (held-more (append D S) ts (linkedIn ws (w .places) (w .count) b) k (R .holds q));
-          over = λ q. absurd (not-both (w .room) e q);
-        };
-        number = λ D S ts R q. omega (arith, unseen D S ts e F R, long D S ts e R);
-        here = λ q. first-new vs (w .base) (w .count) p (L .chained .based) (omega (arith, L .chained .room)) (clean-self p cp) F;
-        stays = λ q x n G. first-stays vs (w .base) (w .count) p x n G;
-      }
+  -- the state after p became a vertex, with other bounds
+  module _ (b′ : Bounds) (W : Widened (w .bounds) p b′) where
+    held-more : (M : Mesh) (ts ws′ : List ℕ) → w .count < w .places → Holds M (here ts) → Holds (more-vertex M p) (held (more w b′) vs₁ ts ws′)
+    held-more M ts ws′ k H =
+        record {
+          vertices =
+              flatV-append (M .vertices) (p ∷ [])
+              ∙ ap (λ (l : List Float). l ++ (p .x ∷ p .y ∷ p .z ∷ [])) (H .vertices)
+              ∙ sym (ap (λ (n : ℕ). take n vs₁) (three-more (w .count)) ∙ take-three vs (3 * w .count) (p .x) (p .y) (p .z) (omega (arith, L .chained .room)));
+          count = length-append (M .vertices) (p ∷ []) ∙ ap (λ (n : ℕ). n + 1) (H .count);
+          triangles = H .triangles;
+          faces = H .faces;
+        }
+
+    bounded-more : w .count < w .places → (m : ℕ) → w .base ≤ m → m < w .count + 1 → inside b′ (vertexAt vs₁ m) ≡ true
+    bounded-more k m a l =
+        ⊎-elim
+        (λ e. ap (λ (n : ℕ). inside b′ (vertexAt vs₁ n)) e ∙ ap (inside b′) (placed-at vs (w .count) p (omega (arith, L .chained .room))) ∙ W .has)
+        (λ r. ap (inside b′) (placed-before vs (w .count) p m r) ∙ W .keeps (vertexAt vs m) (L .bounded m a r))
+        (eq-or-lt-of-le {n = m} {m = w .count} (omega arith))
+
+    pub point-new : Clean p → (b : ℕ) → b ≡ bucketOf (w .places) p → b < w .places → w .room ≡ true → Sought vs (w .base) (w .count) p Missing → w .count < w .places
+        → PointRuns p w vs ws (record { number = w .count; st = more w b′ }) vs₁ (linkedIn ws (w .places) (w .count) b)
+    point-new cp b eb bl e F k =
+        record {
+          linked = record {
+            chained = chain-more vs ws (w .places) (w .base) (w .count) (L .chained) p cp k b eb bl F;
+            places = L .places ∙ places-long vs vs₁ (sym (simp length-set));
+            bounded = bounded-more k;
+          };
+          faces = refl;
+          finite = refl;
+          sticky = λ q. q;
+          small = omega (arith, L .places, places-limit vs);
+          rep = λ D S ts R. record {
+            base = R .base;
+            holds = λ q. subst (λ (M : Mesh). Holds M (held (more w b′) vs₁ ts (linkedIn ws (w .places) (w .count) b))) (sym (grown D S p (unseen D S ts e F R)))
+                (held-more (append D S) ts (linkedIn ws (w .places) (w .count) b) k (R .holds q));
+            over = λ q. absurd (not-both (w .room) e q);
+          };
+          number = λ D S ts R q. omega (arith, unseen D S ts e F R, long D S ts e R);
+          here = λ q. first-new vs (w .base) (w .count) p (L .chained .based) (omega (arith, L .chained .room)) (clean-self p cp) F;
+          stays = λ q x n G. first-stays vs (w .base) (w .count) p x n G;
+        }
 
 -- a point that was seen, or any after there was no room
 pub point-known : (w : Welder) (vs : List Float) (ws : List ℕ) (p : Vec3) (m : ℕ) → Linked w vs ws → m < 2 ^ 32 → (w .room ≡ true → FirstAt vs (w .base) (w .count) p m)

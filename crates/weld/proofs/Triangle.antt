@@ -79,6 +79,7 @@ module _ (a b c : ℕ) (w : Welder) (ts : List ℕ) (fits : w .faces ≤ placesO
         base = refl;
         count = refl;
         places = refl;
+        bounds = refl;
         finite = refl;
         faces = fits;
         sticky = λ q. q;
@@ -96,6 +97,7 @@ module _ (a b c : ℕ) (w : Welder) (ts : List ℕ) (fits : w .faces ≤ placesO
         base = refl;
         count = refl;
         places = refl;
+        bounds = refl;
         finite = refl;
         faces = fits;
         sticky = λ q. q;
@@ -115,6 +117,7 @@ module _ (a b c : ℕ) (w : Welder) (ts : List ℕ) (fits : w .faces ≤ placesO
           base = refl;
           count = refl;
           places = refl;
+          bounds = refl;
           finite = refl;
           faces = fits;
           sticky = λ q. e;
@@ -127,7 +130,7 @@ module _ (a b c : ℕ) (w : Welder) (ts : List ℕ) (fits : w .faces ≤ placesO
         }
 
     abbrev next : Welder
-    next = record { base = w .base; count = w .count; places = w .places; faces = w .faces + 1; finite = w .finite; room = w .room }
+    next = record { base = w .base; count = w .count; places = w .places; faces = w .faces + 1; finite = w .finite; room = w .room; bounds = w .bounds }
 
     abbrev ts₁ : List ℕ
     ts₁ = set (set (set ts (3 * w .faces) a) (3 * w .faces + 1) b) (3 * w .faces + 2) c
@@ -150,6 +153,7 @@ module _ (a b c : ℕ) (w : Welder) (ts : List ℕ) (fits : w .faces ≤ placesO
           base = refl;
           count = refl;
           places = refl;
+          bounds = refl;
           finite = refl;
           faces = omega (arith, places-long ts ts₁ (sym (simp length-set)));
           sticky = λ q. q;
@@ -161,8 +165,8 @@ module _ (a b c : ℕ) (w : Welder) (ts : List ℕ) (fits : w .faces ≤ placesO
         }
 
 -- ---- a triangle of points
-pub linked-moved : {vs : List Float} {ws : List ℕ} (w r : Welder) → r .base ≡ w .base → r .count ≡ w .count → r .places ≡ w .places → Linked w vs ws → Linked r vs ws
-linked-moved w r b c p L = record { chained = rw (b, c, p) (L .chained); places = p ∙ L .places }
+pub linked-moved : {vs : List Float} {ws : List ℕ} (w r : Welder) → r .base ≡ w .base → r .count ≡ w .count → r .places ≡ w .places → r .bounds ≡ w .bounds → Linked w vs ws → Linked r vs ws
+linked-moved w r b c p d L = record { chained = rw (b, c, p) (L .chained); places = p ∙ L .places; bounded = rw (b, c, d) (L .bounded) }
 
 pub points-run : (a b c : Vec3) (st : Welder) (vs : List Float) (ts ws : List ℕ) (u : Welded) (vs₁ : List Float) (ws₁ : List ℕ) (v : Welded) (vs₂ : List Float)
     (ws₂ : List ℕ) (w : Welded) (vs₃ : List Float) (ws₃ : List ℕ) (r : Welder) (ts′ : List ℕ)
@@ -172,7 +176,7 @@ pub points-run : (a b c : Vec3) (st : Welder) (vs : List Float) (ts ws : List �
 unfolding weldPoints
 points-run a b c st vs ts ws u vs₁ ws₁ v vs₂ ws₂ w vs₃ ws₃ r ts′ P₁ P₂ P₃ R lv lt lw =
     record {
-      ready = record { linked = linked-moved (w .st) r (R .base) (R .count) (R .places) (P₃ .linked); faces = R .faces };
+      ready = record { linked = linked-moved (w .st) r (R .base) (R .count) (R .places) (R .bounds) (P₃ .linked); faces = R .faces };
       vlong = lv;
       tlong = lt;
       wlong = lw;
@@ -204,7 +208,7 @@ pub triangle-stops : (w : Welder) (vs : List Float) (ts ws : List ℕ) (a b c : 
 unfolding everyFinite
 triangle-stops w vs ts ws a b c R n =
     record {
-      ready = record { linked = record { chained = R .linked .chained; places = R .linked .places }; faces = R .faces };
+      ready = record { linked = record { chained = R .linked .chained; places = R .linked .places; bounded = R .linked .bounded }; faces = R .faces };
       vlong = refl;
       tlong = refl;
       wlong = refl;

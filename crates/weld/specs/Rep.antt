@@ -12,7 +12,9 @@ use Rattle.balance.specs.Buffer.{flat}
 use Rattle.trimesh.specs.Mesh.{Mesh, noMesh, append, weldSoup, everyFinite}
 use Rattle.trimesh.specs.Slices.{flatV}
 use Rattle.weld.specs.declared.Welder.{Welder}
+use Rattle.chain.specs.Points.{vertexAt}
 use Rattle.chain.specs.Hash.{Chained}
+use Rattle.bounds.specs.Bounds.{inside}
 
 -- document 01, refusal 7: no more than this many vertices, nor triangles
 abbrev pub limit : ℕ
@@ -32,10 +34,11 @@ pub record Held : Type 0 where
 abbrev pub held : Welder → List Float → List ℕ → List ℕ → Held
 held w vs ts ws = record { st = w; vertices = vs; triangles = ts; work = ws }
 
--- the chains stand, and `places` counts the places for vertices
+-- the chains stand, `places` counts the places for vertices, and those of this part are inside of the bounds
 pub record Linked (w : Welder) (vs : List Float) (ws : List ℕ) : Type 0 where
   pub chained : Chained vs ws (w .places) (w .base) (w .count)
   pub places : w .places ≡ placesOf vs
+  pub bounded : (m : ℕ) → w .base ≤ m → m < w .count → inside (w .bounds) (vertexAt vs m) ≡ true
 
 -- what the code needs to be safe: nothing here speaks of the mesh
 pub record Ready (h : Held) : Type 0 where

@@ -11,15 +11,20 @@ use Rattle.trimesh.specs.Mesh.{Mesh, firstSight, withPoint, distinct}
 use Rattle.weld.specs.declared.Welder.{Welder}
 use Rattle.weld.specs.declared.Welded.{Welded}
 use Rattle.chain.specs.Hash.{FirstAt}
+use Rattle.bounds.specs.declared.Bounds.{Bounds}
 use Rattle.weld.specs.Rep.{Held, held, placesOf, Linked, Ready, Rep}
 
 -- the state after a point that is not finite
 abbrev pub unfinite : Welder → Welder
-unfinite w = record { base = w .base; count = w .count; places = w .places; faces = w .faces; finite = false; room = w .room }
+unfinite w = record { base = w .base; count = w .count; places = w .places; faces = w .faces; finite = false; room = w .room; bounds = w .bounds }
 
 -- the state after the mesh did not fit
 abbrev pub shut : Welder → Welder
-shut w = record { base = w .base; count = w .count; places = w .places; faces = w .faces; finite = w .finite; room = false }
+shut w = record { base = w .base; count = w .count; places = w .places; faces = w .faces; finite = w .finite; room = false; bounds = w .bounds }
+
+-- the state after a new vertex
+abbrev pub more : Welder → Bounds → Welder
+more w b = record { base = w .base; count = w .count + 1; places = w .places; faces = w .faces; finite = w .finite; room = w .room; bounds = b }
 
 -- the mesh after p was looked up
 abbrev pub withVertex : Mesh → Vec3 → Mesh
@@ -54,6 +59,7 @@ pub record TriangleRuns (a b c : ℕ) (w : Welder) (ts : List ℕ) (r : Welder) 
   pub base : r .base ≡ w .base
   pub count : r .count ≡ w .count
   pub places : r .places ≡ w .places
+  pub bounds : r .bounds ≡ w .bounds
   pub finite : r .finite ≡ w .finite
   pub faces : r .faces ≤ placesOf ts′
   pub sticky : r .room ≡ true → w .room ≡ true

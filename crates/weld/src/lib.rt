@@ -10,6 +10,7 @@ mod points;
 mod states;
 mod steps;
 
+use bounds::Bounds;
 use math::Vec3;
 pub use points::is_finite;
 pub use points::plus_zero;
@@ -19,7 +20,8 @@ pub use steps::look_up;
 pub use steps::weld_point;
 
 // The state of the welder. `base` vertices belong to the parts before this one, `count` vertices and `faces` triangles are
-// written, and `places` vertices fit. `finite` is false once a point was not finite, `room` once the mesh did not fit.
+// written, and `places` vertices fit. `finite` is false once a point was not finite, `room` once the mesh did not fit. The
+// vertices of this part are inside of `bounds`.
 pub struct Welder {
     pub base: usize,
     pub count: usize,
@@ -27,6 +29,7 @@ pub struct Welder {
     pub faces: usize,
     pub finite: bool,
     pub room: bool,
+    pub bounds: Bounds,
 }
 
 // The number of a point, and the state after it.
@@ -47,6 +50,7 @@ pub fn begin(vertices: &[f64], work: &[u32]) -> Welder
         faces: 0,
         finite: true,
         room: true,
+        bounds: bounds::no_bounds(),
     }
 }
 
@@ -61,6 +65,7 @@ pub fn new_part(w: Welder) -> Welder
         faces: w.faces,
         finite: w.finite,
         room: w.room,
+        bounds: bounds::no_bounds(),
     }
 }
 

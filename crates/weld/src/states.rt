@@ -1,9 +1,10 @@
 // The whole places of a slice, and the states in which the welder stops.
 ghost use mathlib.Core.Path.{_≡_};
-ghost use Prim.Native.Nat.{_/_, min};
+ghost use Prim.Native.Nat.{_/_, _<_, _^_, min};
 ghost use Rattle.weld.specs.Rep.{limit};
-ghost use Rattle.weld.specs.Steps.{unfinite, shut};
+ghost use Rattle.weld.specs.Steps.{unfinite, shut, more};
 use crate::Welder;
+use bounds::Bounds;
 
 // The whole places of a slice of this length, three entries each, at most 4,294,967,295.
 pub fn whole_places(len: usize) -> usize
@@ -21,6 +22,7 @@ pub fn whole_places(len: usize) -> usize
 pub fn stopped(w: Welder) -> Welder
     ensures { λ r. ⌜ r ≡ unfinite w ⌝ }
 {
+    let bounds = w.bounds;
     Welder {
         base: w.base,
         count: w.count,
@@ -28,6 +30,7 @@ pub fn stopped(w: Welder) -> Welder
         faces: w.faces,
         finite: false,
         room: w.room,
+        bounds,
     }
 }
 
@@ -35,6 +38,7 @@ pub fn stopped(w: Welder) -> Welder
 pub fn full(w: Welder) -> Welder
     ensures { λ r. ⌜ r ≡ shut w ⌝ }
 {
+    let bounds = w.bounds;
     Welder {
         base: w.base,
         count: w.count,
@@ -42,5 +46,22 @@ pub fn full(w: Welder) -> Welder
         faces: w.faces,
         finite: w.finite,
         room: false,
+        bounds,
+    }
+}
+
+// The state after a new vertex, with bounds that it is inside of.
+pub fn grown(w: Welder, bounds: Bounds) -> Welder
+    requires { ⌜ w .count < 2 ^ 32 ⌝ }
+    ensures { λ r. ⌜ r ≡ more w bounds ⌝ }
+{
+    Welder {
+        base: w.base,
+        count: w.count + 1,
+        places: w.places,
+        faces: w.faces,
+        finite: w.finite,
+        room: w.room,
+        bounds,
     }
 }

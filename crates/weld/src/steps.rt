@@ -1,6 +1,9 @@
 // The steps of one turn of from_soup's loop, for points that came out of `+ 0.0`.
+ghost use mathlib.Core.Path.{_≡_};
+ghost use mathlib.Core.Bool.{true, false};
 ghost use Prim.Native.Nat.{_≤_, _<_, _^_};
 ghost use Rattle.chain.specs.Points.{Clean};
+ghost use Rattle.bounds.specs.Bounds.{inside};
 ghost use Rattle.weld.specs.Rep.{held, placesOf, Linked, Ready};
 ghost use Rattle.weld.specs.Steps.{PointRuns, TriangleRuns, PointsRun};
 use crate::Welded;
@@ -57,44 +60,71 @@ pub fn weld_point(
     look_up(vertices, work, w, p)
 }
 
-// Gives a point its number: that of the first equal vertex of this part, or the next one, with which it is written.
+// Gives a point its number: that of the first equal vertex of this part, or the next one, with which it is written. A point
+// outside of the bounds needs no search.
 pub fn look_up(vertices: &mut [f64], work: &mut [u32], w: Welder, p: Vec3) -> Welded
     requires { ⌜ Linked w (now vertices) (now work) × Clean p ⌝ }
     ensures { λ r. ⌜ PointRuns p w (now (vertices .entry)) (now (work .entry)) r (now (vertices .exit)) (now (work .exit)) ⌝ }
 {
-    let base = w.base;
-    let count = w.count;
-    let places = w.places;
     let room = w.room;
     if !room {
         return Welded { number: 0, st: w };
     }
+    let bounds = w.bounds;
+    if bounds::is_inside(bounds, p) {
+        return search(vertices, work, w, p);
+    }
+    add_new(vertices, work, w, p)
+}
+
+// The same for a point inside of the bounds.
+fn search(vertices: &mut [f64], work: &mut [u32], w: Welder, p: Vec3) -> Welded
+    requires { ⌜ Linked w (now vertices) (now work) × Clean p × (w .room ≡ true) × (inside (w .bounds) p ≡ true) ⌝ }
+    ensures { λ r. ⌜ PointRuns p w (now (vertices .entry)) (now (work .entry)) r (now (vertices .exit)) (now (work .exit)) ⌝ }
+{
+    let count = w.count;
+    let places = w.places;
     if places == 0 {
         return Welded {
             number: 0,
             st: states::full(w),
         };
     }
-    let number = chain::place_of(vertices, work, places, base, count, p);
+    let number = chain::place_of(vertices, work, places, w.base, count, p);
     if number < count {
         return Welded { number, st: w };
     }
     if number == count {
+        let bounds = w.bounds;
         return Welded {
             number,
-            st: Welder {
-                base,
-                count: count + 1,
-                places,
-                faces: w.faces,
-                finite: w.finite,
-                room,
-            },
+            st: states::grown(w, bounds),
         };
     }
     Welded {
         number: 0,
         st: states::full(w),
+    }
+}
+
+// The same for a point outside of the bounds, which equals no vertex of this part.
+fn add_new(vertices: &mut [f64], work: &mut [u32], w: Welder, p: Vec3) -> Welded
+    requires { ⌜ Linked w (now vertices) (now work) × Clean p × (w .room ≡ true) × (inside (w .bounds) p ≡ false) ⌝ }
+    ensures { λ r. ⌜ PointRuns p w (now (vertices .entry)) (now (work .entry)) r (now (vertices .exit)) (now (work .exit)) ⌝ }
+{
+    let count = w.count;
+    let places = w.places;
+    if places <= count {
+        return Welded {
+            number: 0,
+            st: states::full(w),
+        };
+    }
+    chain::add_new(vertices, work, places, count, p);
+    let bounds = w.bounds;
+    Welded {
+        number: count,
+        st: states::grown(w, bounds::widened(bounds, p)),
     }
 }
 
@@ -124,6 +154,7 @@ pub fn add_triangle(triangles: &mut [u32], w: Welder, a: usize, b: usize, c: usi
     triangles[at] = a as u32;
     triangles[at + 1] = b as u32;
     triangles[at + 2] = c as u32;
+    let bounds = w.bounds;
     Welder {
         base: w.base,
         count: w.count,
@@ -131,5 +162,6 @@ pub fn add_triangle(triangles: &mut [u32], w: Welder, a: usize, b: usize, c: usi
         faces: faces + 1,
         finite: w.finite,
         room,
+        bounds,
     }
 }

@@ -1,0 +1,2 @@
+-- What the contracts of `bounds` cite: which points are inside of bounds.
+pub mod Bounds
