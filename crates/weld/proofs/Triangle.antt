@@ -16,7 +16,7 @@ use Rattle.trimesh.specs.Mesh.{Mesh, finiteV, plusZeroV, distinct, append, weld
 use Rattle.weld.specs.declared.Welder.{Welder}
 use Rattle.weld.specs.declared.Welded.{Welded}
 use Rattle.weld.specs.Rep.{Held, held, placesOf, Linked, Ready, Holds, Over, Rep, Runs}
-use Rattle.weld.specs.Steps.{unfinite, shut, withTriangle, weldPoints, PointRuns, TriangleRuns, PointsRun}
+use Rattle.weld.specs.Steps.{unfinite, shut, moreFaces, withTriangle, weldPoints, PointRuns, TriangleRuns, PointsRun}
 use Rattle.weld.proofs.Places.{take-three, places-fit, places-long}
 use Rattle.chain.proofs.Chains.{not-both}
 use Rattle.weld.proofs.Point.{rep-shut, three-more}
@@ -129,13 +129,10 @@ module _ (a b c : ℕ) (w : Welder) (ts : List ℕ) (fits : w .faces ≤ placesO
           };
         }
 
-    abbrev next : Welder
-    next = record { base = w .base; count = w .count; places = w .places; faces = w .faces + 1; finite = w .finite; room = w .room; bounds = w .bounds }
-
     abbrev ts₁ : List ℕ
     ts₁ = set (set (set ts (3 * w .faces) a) (3 * w .faces + 1) b) (3 * w .faces + 2) c
 
-    held-more : (M : Mesh) (vs : List Float) (ws : List ℕ) → w .faces < placesOf ts → Holds M (held w vs ts ws) → Holds (more-triangle M (a, b, c)) (held next vs ts₁ ws)
+    held-more : (M : Mesh) (vs : List Float) (ws : List ℕ) → w .faces < placesOf ts → Holds M (held w vs ts ws) → Holds (more-triangle M (a, b, c)) (held (moreFaces w) vs ts₁ ws)
     held-more M vs ws l H =
         record {
           vertices = H .vertices;
@@ -147,7 +144,7 @@ module _ (a b c : ℕ) (w : Welder) (ts : List ℕ) (fits : w .faces ≤ placesO
           faces = length-append (M .triangles) ((a, b, c) ∷ []) ∙ ap (λ (n : ℕ). n + 1) (H .faces);
         }
 
-    pub triangle-new : w .room ≡ true → w .faces < placesOf ts → TriangleRuns a b c w ts next ts₁
+    pub triangle-new : w .room ≡ true → w .faces < placesOf ts → TriangleRuns a b c w ts (moreFaces w) ts₁
     triangle-new e l =
         record {
           base = refl;
@@ -159,7 +156,7 @@ module _ (a b c : ℕ) (w : Welder) (ts : List ℕ) (fits : w .faces ≤ placesO
           sticky = λ q. q;
           rep = λ D S vs ws t n R. record {
             base = R .base;
-            holds = λ f. subst (λ (M : Mesh). Holds M (held next vs ts₁ ws)) (sym (grows D S t (n e))) (held-more (append D S) vs ws l (R .holds f));
+            holds = λ f. subst (λ (M : Mesh). Holds M (held (moreFaces w) vs ts₁ ws)) (sym (grows D S t (n e))) (held-more (append D S) vs ws l (R .holds f));
             over = λ f. absurd (not-both (w .room) e f);
           };
         }

@@ -26,6 +26,10 @@ shut w = record { base = w .base; count = w .count; places = w .places; faces = 
 abbrev pub more : Welder → Bounds → Welder
 more w b = record { base = w .base; count = w .count + 1; places = w .places; faces = w .faces; finite = w .finite; room = w .room; bounds = b }
 
+-- the state after a new triangle
+abbrev pub moreFaces : Welder → Welder
+moreFaces w = record { base = w .base; count = w .count; places = w .places; faces = w .faces + 1; finite = w .finite; room = w .room; bounds = w .bounds }
+
 -- the mesh after p was looked up
 abbrev pub withVertex : Mesh → Vec3 → Mesh
 withVertex S p = record { vertices = withPoint (S .vertices) p; triangles = S .triangles }

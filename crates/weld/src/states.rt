@@ -2,7 +2,7 @@
 ghost use mathlib.Core.Path.{_≡_};
 ghost use Prim.Native.Nat.{_/_, _<_, _^_, min};
 ghost use Rattle.weld.specs.Rep.{limit};
-ghost use Rattle.weld.specs.Steps.{unfinite, shut, more};
+ghost use Rattle.weld.specs.Steps.{unfinite, shut, more, moreFaces};
 use crate::Welder;
 use bounds::Bounds;
 
@@ -60,6 +60,23 @@ pub fn grown(w: Welder, bounds: Bounds) -> Welder
         count: w.count + 1,
         places: w.places,
         faces: w.faces,
+        finite: w.finite,
+        room: w.room,
+        bounds,
+    }
+}
+
+// The state after a new triangle.
+pub fn with_face(w: Welder) -> Welder
+    requires { ⌜ w .faces < 2 ^ 32 ⌝ }
+    ensures { λ r. ⌜ r ≡ moreFaces w ⌝ }
+{
+    let bounds = w.bounds;
+    Welder {
+        base: w.base,
+        count: w.count,
+        places: w.places,
+        faces: w.faces + 1,
         finite: w.finite,
         room: w.room,
         bounds,

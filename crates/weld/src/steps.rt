@@ -154,14 +154,5 @@ pub fn add_triangle(triangles: &mut [u32], w: Welder, a: usize, b: usize, c: usi
     triangles[at] = a as u32;
     triangles[at + 1] = b as u32;
     triangles[at + 2] = c as u32;
-    let bounds = w.bounds;
-    Welder {
-        base: w.base,
-        count: w.count,
-        places: w.places,
-        faces: faces + 1,
-        finite: w.finite,
-        room,
-        bounds,
-    }
+    states::with_face(w)
 }

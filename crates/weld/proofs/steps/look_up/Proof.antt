@@ -1,11 +1,9 @@
--- `weld::steps::look_up` meets its contract: a case of proofs/Point.antt for each return. Assumes nothing.
+-- `weld::steps::look_up` meets its contract: inside of the bounds and outside. Assumes nothing.
 use borrow.Author.Needs.{needs}
 use borrow.Author.Tests.{not-true, not-false}
-use mathlib.Core.Path.{refl}
-use native.Mathlib.Omega.{arith}
+use mathlib.Core.Path.{sym, _∙_}
 use denote.Ref.{now}
-use Rattle.weld.proofs.Places.{places-limit}
-use Rattle.weld.proofs.Point.{point-shut, point-at, point-full, point-new}
+use Rattle.weld.proofs.Point.{point-shut}
 use Rattle.weld.proofs.steps.look_up.Statement.{statement}
 use Rattle.weld.proofs.steps.look_up.Tie as tie
 
@@ -14,19 +12,13 @@ returns c =
     let s = c .before .before .before in
     point-shut (s .args .w) (now (s .args .vertices)) (now (s .args .work)) (s .pre .0) (s .args .p) (not-true _ (c .if1 .taken))
 
-full-requires : tie.Need-full-requires
-full-requires c κs = search needs
+is-inside-requires : tie.Need-is-inside-requires
+is-inside-requires c κs = search needs
 
-returns-2 : tie.Need-returns-2
-returns-2 c =
-    let s = c .before .before .before .before .before in
-    let z = c .before .before .before .before .before .pre .0 .chained .within in
-    rw (c .full .ensures) (point-full (s .args .w) (now (s .args .vertices)) (now (s .args .work)) (s .pre .0) (s .args .p) (not-false _ (c .before .before .if1 .left)) (λ m a k q. omega (arith, c .before .if2 .taken)) (omega (arith, c .before .if2 .taken)))
-
-place-of-requires : tie.Need-place-of-requires
-place-of-requires c κs =
-    let s = c .before .before .before .before .before .before in
-    (s .pre .0 .chained, (search needs, omega (arith, places-limit (now (s .args .vertices)), s .pre .0 .places), s .pre .1))
+search-requires : tie.Need-search-requires
+search-requires c κs =
+    let s = c .before .before .before .before .before .before .before .before in
+    (s .pre .0, s .pre .1, not-false _ (c .before .before .before .before .before .if1 .left), sym (c .before .before .before .is-inside .ensures) ∙ c .before .before .if2 .taken)
 
 same-length : tie.Need-same-length
 same-length c = search needs
@@ -34,14 +26,13 @@ same-length c = search needs
 same-length-2 : tie.Need-same-length-2
 same-length-2 c = search needs
 
-returns-3 : tie.Need-returns-3
-returns-3 c =
-    let s = c .before .before .before .before .before .before .before .before .before .before .before .before in
-    let f = c .before .before .before .before .before .place-of .ensures .found (c .if3 .taken) in
-    rw (f .1, f .2) (point-at (s .args .w) (now (s .args .vertices)) (now (s .args .work)) (s .pre .0) (s .args .p) (c .before .before .before .before .before .place-of .result) (not-false _ (c .before .before .before .before .before .before .before .before .before .if1 .left)) (f .0))
+returns-2 : tie.Need-returns-2
+returns-2 c = search needs
 
-add-t16 : tie.Need-add-t16
-add-t16 c = search needs
+add-new-requires : tie.Need-add-new-requires
+add-new-requires c κs =
+    let s = c .before .before .before .before .before .before .before .before in
+    (s .pre .0, s .pre .1, not-false _ (c .before .before .before .before .before .if1 .left), sym (c .before .before .before .is-inside .ensures) ∙ c .before .before .if2 .left)
 
 same-length-3 : tie.Need-same-length-3
 same-length-3 c = search needs
@@ -49,43 +40,20 @@ same-length-3 c = search needs
 same-length-4 : tie.Need-same-length-4
 same-length-4 c = search needs
 
-returns-4 : tie.Need-returns-4
-returns-4 c =
-    let s = c .before .before .before .before .before .before .before .before .before .before .before .before .before in
-    let n = c .before .before .before .before .before .before .place-of .ensures .new (c .if4 .taken) in
-    rw (n .3, n .4, c .if4 .taken) (point-new (s .args .w) (now (s .args .vertices)) (now (s .args .work)) (s .pre .0) (s .args .p) (s .pre .1) _ refl (n .2) (not-false _ (c .before .before .before .before .before .before .before .before .before .before .if1 .left)) (n .0) (n .1))
-
-full-requires-2 : tie.Need-full-requires-2
-full-requires-2 c κs = search needs
-
-same-length-5 : tie.Need-same-length-5
-same-length-5 c = search needs
-
-same-length-6 : tie.Need-same-length-6
-same-length-6 c = search needs
-
-returns-5 : tie.Need-returns-5
-returns-5 c =
-    let s = c .before .before .before .before .before .before .before .before .before .before .before .before .before .before in
-    let f = c .before .before .before .before .before .before .before .place-of .ensures .full (omega (arith, c .before .before .if3 .left, c .before .if4 .left)) in
-    rw (f .2, f .3, c .full2 .ensures) (point-full (s .args .w) (now (s .args .vertices)) (now (s .args .work)) (s .pre .0) (s .args .p) (not-false _ (c .before .before .before .before .before .before .before .before .before .before .before .if1 .left)) (f .0) (f .1))
+returns-3 : tie.Need-returns-3
+returns-3 c = search needs
 
 pub look-up-spec : {M : Type 1} → statement M
 look-up-spec =
     tie.close
     (tie.spec
     returns
-    full-requires
-    returns-2
-    place-of-requires
+    is-inside-requires
+    search-requires
     same-length
     same-length-2
-    returns-3
-    add-t16
+    returns-2
+    add-new-requires
     same-length-3
     same-length-4
-    returns-4
-    full-requires-2
-    same-length-5
-    same-length-6
-    returns-5)
+    returns-3)
