@@ -1,11 +1,11 @@
 // The hash chains in the work slice. They find the vertex that equals a point, as the `HashMap` of from_soup does.
 ghost use mathlib.Core.Path.{_≡_};
 ghost use mathlib.Core.Bool.{true};
-ghost use Prim.Native.Nat.{_+_, _-_, _*_, _<_, _≤_, _^_};
+ghost use Prim.Native.Nat.{_+_, _*_, _<_, _≤_, _^_};
 ghost use lib.ListN.{length};
 ghost use Rattle.trimesh.specs.Mesh.{samePoint};
 ghost use Rattle.chain.specs.Points.{Clean, vertexAt, placed};
-ghost use Rattle.chain.specs.Hash.{spreadOf, bucketOf, Chained, linkedIn, Sought, Placing, headOf, followed};
+ghost use Rattle.chain.specs.Hash.{spreadOf, bucketOf, Chained, linkedIn, Sought, Placing};
 use math::Vec3;
 
 // What a look-up finds: the number of a vertex, or none.
@@ -173,46 +173,5 @@ pub fn add_new(vertices: &mut [f64], work: &mut [u32], places: usize, count: usi
     ensures { λ _. ⌜ now (vertices .exit) ≡ placed (now (vertices .entry)) count p ⌝ }
     ensures { λ _. ⌜ now (work .exit) ≡ linkedIn (now (work .entry)) places count (bucketOf places p) ⌝ }
 {
-    let bucket = bucket_of(p, places);
-    append(vertices, work, places, count, bucket, p);
-}
-
-// The head of p's chain: one more than the number of a vertex, or 0.
-pub fn head(work: &[u32], places: usize, p: Vec3) -> usize
-    requires { ⌜ (0 < places) × (places < 2 ^ 32) × Clean p ⌝ }
-    requires { ⌜ places ≤ length (now work) ⌝ }
-    ensures { λ r. ⌜ r ≡ headOf (now (work .entry)) places p ⌝ }
-{
-    let bucket = bucket_of(p, places);
-    wide(work[bucket])
-}
-
-// One less than k, and 0 for 0.
-fn less_one(k: usize) -> usize
-    ensures { λ r. ⌜ r ≡ k - 1 ⌝ }
-{
-    if 0 < k { k - 1 } else { 0 }
-}
-
-// A step along a chain: k where vertex k − 1 equals p, else what follows k. There is no test whether the chain ends at 0: nobody can
-// foretell it, and the processor would wait for it. Vertex 0 is read then.
-pub fn follow(
-    vertices: &[f64],
-    work: &[u32],
-    places: usize,
-    count: usize,
-    k: usize,
-    p: Vec3,
-) -> usize
-    requires { ⌜ (3 * places ≤ length (now vertices)) × (2 * places ≤ length (now work)) × (count ≤ places) ⌝ }
-    ensures { λ r. ⌜ r ≡ followed (now (vertices .entry)) (now (work .entry)) places count k p ⌝ }
-{
-    let m = less_one(k);
-    if m >= count {
-        return 0;
-    }
-    if equal(vertex(vertices, m), p) {
-        return k;
-    }
-    wide(work[places + m])
+    append(vertices, work, places, count, bucket_of(p, places), p);
 }
