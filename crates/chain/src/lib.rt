@@ -54,7 +54,7 @@ fn equal(a: Vec3, b: Vec3) -> bool
 }
 
 // Vertex m.
-fn vertex(vertices: &[f64], m: usize) -> Vec3
+pub fn vertex(vertices: &[f64], m: usize) -> Vec3
     requires { ⌜ 3 * m + 3 ≤ length (now vertices) ⌝ }
     ensures { λ r. ⌜ r ≡ vertexAt (now (vertices .entry)) m ⌝ }
 {

@@ -4,7 +4,7 @@ use mathlib.Core.Bool.{Bool, true, false}
 use mathlib.Core.List.{List, [], _∷_, _++_, map, append-assoc}
 use mathlib.Core.Logic.{⊎-elim, inl, inr}
 use Prim.Native.Nat.{ℕ, _+_, _-_, _*_, _≤_, _<_, _^_}
-use native.Mathlib.Nat.{eq-or-lt-of-le}
+use native.Mathlib.Nat.{eq-or-lt-of-le, add-sub-cancel}
 use native.Mathlib.Omega.{arith}
 use lib.ListN.{length, getD, take, length-set, length-append, length-map}
 use lib.Seq.{getD-append-add}
@@ -18,9 +18,9 @@ use Rattle.chain.specs.declared.Found.the-variants.{Missing}
 use Rattle.weld.specs.declared.Welder.{Welder}
 use Rattle.chain.specs.Points.{Clean, vertexAt, placed}
 use Rattle.chain.specs.Hash.{bucketOf, linkedIn, FirstAt, Sought}
-use Rattle.bounds.specs.declared.Bounds.{Bounds}
-use Rattle.bounds.specs.Bounds.{inside, Widened}
-use Rattle.weld.specs.Rep.{Held, held, Linked, Holds, Over, Rep}
+use Rattle.rows.specs.declared.Row.{Row}
+use Rattle.rows.specs.Rows.{within, Follows}
+use Rattle.weld.specs.Rep.{Held, held, rowOf, InRow, Linked, Holds, Over, Rep}
 use Rattle.weld.specs.Steps.{shut, more, withVertex, PointRuns}
 use Rattle.weld.proofs.Places.{take-three, take-vertex, flatV-at, places-limit, places-long}
 use Rattle.chain.proofs.Clean.{clean-self, same-data}
@@ -139,7 +139,7 @@ module _ (w : Welder) (vs : List Float) (ws : List ℕ) (L : Linked w vs ws) (p 
   pub point-full : w .room ≡ true → Sought vs (w .base) (w .count) p Missing → w .places ≤ w .count → PointRuns p w vs ws (record { number = 0; st = shut w }) vs ws
   point-full e F k =
       record {
-        linked = record { chained = L .chained; places = L .places; bounded = L .bounded };
+        linked = record { chained = L .chained; places = L .places; rows = L .rows };
         faces = refl;
         finite = refl;
         sticky = λ q. e;
@@ -158,14 +158,19 @@ module _ (w : Welder) (vs : List Float) (ws : List ℕ) (L : Linked w vs ws) (p 
   abbrev vs₁ : List Float
   vs₁ = placed vs (w .count) p
 
-  -- a point outside of the bounds equals no vertex of this part
-  pub outside : Clean p → inside (w .bounds) p ≡ false → Sought vs (w .base) (w .count) p Missing
-  outside cp o m a k s =
-      not-both (inside (w .bounds) p) (sym (ap (inside (w .bounds)) (same-data (vertexAt vs m) p (L .chained .clean m k) cp s)) ∙ L .bounded m a k) o
+  -- a point that is not within the rows equals no vertex of this part
+  pub outside : Clean p → w .ordered ≡ true → within (rowOf w) (vertexAt vs (w .count - 1)) p ≡ false → Sought vs (w .base) (w .count) p Missing
+  outside cp e o m a k s =
+      not-both (within (rowOf w) (vertexAt vs (w .count - 1)) p)
+      (sym (ap (within (rowOf w) (vertexAt vs (w .count - 1))) (same-data (vertexAt vs m) p (L .chained .clean m k) cp s)) ∙ L .rows e m a k) o
 
-  -- the state after p became a vertex, with other bounds
-  module _ (b′ : Bounds) (W : Widened (w .bounds) p b′) where
-    held-more : (M : Mesh) (ts ws′ : List ℕ) → w .count < w .places → Holds M (here ts) → Holds (more-vertex M p) (held (more w b′) vs₁ ts ws′)
+  -- the row after such a point
+  pub in-row : (r : Row) → w .ordered ≡ true → Follows (rowOf w) (vertexAt vs (w .count - 1)) p r → InRow (w .base) (w .count) vs p r
+  in-row r e F = record { has = F .has; keeps = λ m a k. F .keeps (vertexAt vs m) (L .chained .clean m k) (L .rows e m a k) }
+
+  -- the state after p became a vertex, in a row or not
+  module _ (r : Row) (o : Bool) (W : o ≡ true → InRow (w .base) (w .count) vs p r) where
+    held-more : (M : Mesh) (ts ws′ : List ℕ) → w .count < w .places → Holds M (here ts) → Holds (more-vertex M p) (held (more w r o) vs₁ ts ws′)
     held-more M ts ws′ k H =
         record {
           vertices =
@@ -177,21 +182,25 @@ module _ (w : Welder) (vs : List Float) (ws : List ℕ) (L : Linked w vs ws) (p 
           faces = H .faces;
         }
 
-    bounded-more : w .count < w .places → (m : ℕ) → w .base ≤ m → m < w .count + 1 → inside b′ (vertexAt vs₁ m) ≡ true
-    bounded-more k m a l =
-        ⊎-elim
-        (λ e. ap (λ (n : ℕ). inside b′ (vertexAt vs₁ n)) e ∙ ap (inside b′) (placed-at vs (w .count) p (omega (arith, L .chained .room))) ∙ W .has)
-        (λ r. ap (inside b′) (placed-before vs (w .count) p m r) ∙ W .keeps (vertexAt vs m) (L .bounded m a r))
+    rows-more : w .count < w .places → o ≡ true → (m : ℕ) → w .base ≤ m → m < w .count + 1 → within r (vertexAt vs₁ (w .count + 1 - 1)) (vertexAt vs₁ m) ≡ true
+    rows-more k q m a l =
+        ap (λ (v : Vec3). within r v (vertexAt vs₁ m)) (ap (vertexAt vs₁) (add-sub-cancel (w .count) 1) ∙ last)
+        ∙ ⊎-elim
+        (λ e. ap (λ (n : ℕ). within r p (vertexAt vs₁ n)) e ∙ ap (within r p) last ∙ W q .has)
+        (λ j. ap (within r p) (placed-before vs (w .count) p m j) ∙ W q .keeps m a j)
         (eq-or-lt-of-le {n = m} {m = w .count} (omega arith))
+      where
+        last : vertexAt vs₁ (w .count) ≡ p
+        last = placed-at vs (w .count) p (omega (arith, L .chained .room))
 
     pub point-new : Clean p → (b : ℕ) → b ≡ bucketOf (w .places) p → b < w .places → w .room ≡ true → Sought vs (w .base) (w .count) p Missing → w .count < w .places
-        → PointRuns p w vs ws (record { number = w .count; st = more w b′ }) vs₁ (linkedIn ws (w .places) (w .count) b)
+        → PointRuns p w vs ws (record { number = w .count; st = more w r o }) vs₁ (linkedIn ws (w .places) (w .count) b)
     point-new cp b eb bl e F k =
         record {
           linked = record {
             chained = chain-more vs ws (w .places) (w .base) (w .count) (L .chained) p cp k b eb bl F;
             places = L .places ∙ places-long vs vs₁ (sym (simp length-set));
-            bounded = bounded-more k;
+            rows = rows-more k;
           };
           faces = refl;
           finite = refl;
@@ -199,7 +208,7 @@ module _ (w : Welder) (vs : List Float) (ws : List ℕ) (L : Linked w vs ws) (p 
           small = omega (arith, L .places, places-limit vs);
           rep = λ D S ts R. record {
             base = R .base;
-            holds = λ q. subst (λ (M : Mesh). Holds M (held (more w b′) vs₁ ts (linkedIn ws (w .places) (w .count) b))) (sym (grown D S p (unseen D S ts e F R)))
+            holds = λ q. subst (λ (M : Mesh). Holds M (held (more w r o) vs₁ ts (linkedIn ws (w .places) (w .count) b))) (sym (grown D S p (unseen D S ts e F R)))
                 (held-more (append D S) ts (linkedIn ws (w .places) (w .count) b) k (R .holds q));
             over = λ q. absurd (not-both (w .room) e q);
           };

@@ -15,7 +15,7 @@ use Rattle.balance.specs.Buffer.{flat-append}
 use Rattle.trimesh.specs.Mesh.{Mesh, finiteV, plusZeroV, distinct, append, weldTriangle, weldSoup, everyFinite}
 use Rattle.weld.specs.declared.Welder.{Welder}
 use Rattle.weld.specs.declared.Welded.{Welded}
-use Rattle.weld.specs.Rep.{Held, held, placesOf, Linked, Ready, Holds, Over, Rep, Runs}
+use Rattle.weld.specs.Rep.{Held, held, placesOf, rowOf, Linked, Ready, Holds, Over, Rep, Runs}
 use Rattle.weld.specs.Steps.{unfinite, shut, moreFaces, withTriangle, weldPoints, PointRuns, TriangleRuns, PointsRun}
 use Rattle.weld.proofs.Places.{take-three, places-fit, places-long}
 use Rattle.chain.proofs.Chains.{not-both}
@@ -79,7 +79,8 @@ module _ (a b c : ℕ) (w : Welder) (ts : List ℕ) (fits : w .faces ≤ placesO
         base = refl;
         count = refl;
         places = refl;
-        bounds = refl;
+        ordered = refl;
+        row = refl;
         finite = refl;
         faces = fits;
         sticky = λ q. q;
@@ -97,7 +98,8 @@ module _ (a b c : ℕ) (w : Welder) (ts : List ℕ) (fits : w .faces ≤ placesO
         base = refl;
         count = refl;
         places = refl;
-        bounds = refl;
+        ordered = refl;
+        row = refl;
         finite = refl;
         faces = fits;
         sticky = λ q. q;
@@ -117,7 +119,8 @@ module _ (a b c : ℕ) (w : Welder) (ts : List ℕ) (fits : w .faces ≤ placesO
           base = refl;
           count = refl;
           places = refl;
-          bounds = refl;
+          ordered = refl;
+          row = refl;
           finite = refl;
           faces = fits;
           sticky = λ q. e;
@@ -150,7 +153,8 @@ module _ (a b c : ℕ) (w : Welder) (ts : List ℕ) (fits : w .faces ≤ placesO
           base = refl;
           count = refl;
           places = refl;
-          bounds = refl;
+          ordered = refl;
+          row = refl;
           finite = refl;
           faces = omega (arith, places-long ts ts₁ (sym (simp length-set)));
           sticky = λ q. q;
@@ -162,8 +166,9 @@ module _ (a b c : ℕ) (w : Welder) (ts : List ℕ) (fits : w .faces ≤ placesO
         }
 
 -- ---- a triangle of points
-pub linked-moved : {vs : List Float} {ws : List ℕ} (w r : Welder) → r .base ≡ w .base → r .count ≡ w .count → r .places ≡ w .places → r .bounds ≡ w .bounds → Linked w vs ws → Linked r vs ws
-linked-moved w r b c p d L = record { chained = rw (b, c, p) (L .chained); places = p ∙ L .places; bounded = rw (b, c, d) (L .bounded) }
+pub linked-moved : {vs : List Float} {ws : List ℕ} (w r : Welder) → r .base ≡ w .base → r .count ≡ w .count → r .places ≡ w .places → r .ordered ≡ w .ordered → rowOf r ≡ rowOf w
+    → Linked w vs ws → Linked r vs ws
+linked-moved w r b c p o k L = record { chained = rw (b, c, p) (L .chained); places = p ∙ L .places; rows = rw (b, c, o, k) (L .rows) }
 
 pub points-run : (a b c : Vec3) (st : Welder) (vs : List Float) (ts ws : List ℕ) (u : Welded) (vs₁ : List Float) (ws₁ : List ℕ) (v : Welded) (vs₂ : List Float)
     (ws₂ : List ℕ) (w : Welded) (vs₃ : List Float) (ws₃ : List ℕ) (r : Welder) (ts′ : List ℕ)
@@ -173,7 +178,7 @@ pub points-run : (a b c : Vec3) (st : Welder) (vs : List Float) (ts ws : List �
 unfolding weldPoints
 points-run a b c st vs ts ws u vs₁ ws₁ v vs₂ ws₂ w vs₃ ws₃ r ts′ P₁ P₂ P₃ R lv lt lw =
     record {
-      ready = record { linked = linked-moved (w .st) r (R .base) (R .count) (R .places) (R .bounds) (P₃ .linked); faces = R .faces };
+      ready = record { linked = linked-moved (w .st) r (R .base) (R .count) (R .places) (R .ordered) (R .row) (P₃ .linked); faces = R .faces };
       vlong = lv;
       tlong = lt;
       wlong = lw;
@@ -205,7 +210,7 @@ pub triangle-stops : (w : Welder) (vs : List Float) (ts ws : List ℕ) (a b c : 
 unfolding everyFinite
 triangle-stops w vs ts ws a b c R n =
     record {
-      ready = record { linked = record { chained = R .linked .chained; places = R .linked .places; bounded = R .linked .bounded }; faces = R .faces };
+      ready = record { linked = record { chained = R .linked .chained; places = R .linked .places; rows = R .linked .rows }; faces = R .faces };
       vlong = refl;
       tlong = refl;
       wlong = refl;

@@ -1,6 +1,6 @@
 -- The steps of one turn of from_soup's loop, for points that came out of `+ 0.0`, and what each does to the slices. Definitions only.
 use mathlib.Core.Path.{_≡_}
-use mathlib.Core.Bool.{true, false, cond}
+use mathlib.Core.Bool.{Bool, true, false, cond}
 use mathlib.Core.List.{List, [], _∷_, _++_}
 use Prim.Native.Nat.{ℕ, _+_, _≤_, _<_, _^_}
 use lib.ListN.{length}
@@ -11,24 +11,24 @@ use Rattle.trimesh.specs.Mesh.{Mesh, firstSight, withPoint, distinct}
 use Rattle.weld.specs.declared.Welder.{Welder}
 use Rattle.weld.specs.declared.Welded.{Welded}
 use Rattle.chain.specs.Hash.{FirstAt}
-use Rattle.bounds.specs.declared.Bounds.{Bounds}
-use Rattle.weld.specs.Rep.{Held, held, placesOf, Linked, Ready, Rep}
+use Rattle.rows.specs.declared.Row.{Row}
+use Rattle.weld.specs.Rep.{Held, held, placesOf, rowOf, Linked, Ready, Rep}
 
 -- the state after a point that is not finite
 abbrev pub unfinite : Welder → Welder
-unfinite w = record { base = w .base; count = w .count; places = w .places; faces = w .faces; finite = false; room = w .room; bounds = w .bounds }
+unfinite w = record { base = w .base; count = w .count; places = w .places; faces = w .faces; near = w .near; finite = false; room = w .room; ordered = w .ordered; rising = w .rising }
 
 -- the state after the mesh did not fit
 abbrev pub shut : Welder → Welder
-shut w = record { base = w .base; count = w .count; places = w .places; faces = w .faces; finite = w .finite; room = false; bounds = w .bounds }
+shut w = record { base = w .base; count = w .count; places = w .places; faces = w .faces; near = w .near; finite = w .finite; room = false; ordered = w .ordered; rising = w .rising }
 
--- the state after a new vertex
-abbrev pub more : Welder → Bounds → Welder
-more w b = record { base = w .base; count = w .count + 1; places = w .places; faces = w .faces; finite = w .finite; room = w .room; bounds = b }
+-- the state after a new vertex, in the row r where o is true
+abbrev pub more : Welder → Row → Bool → Welder
+more w r o = record { base = w .base; count = w .count + 1; places = w .places; faces = w .faces; near = r .near; finite = w .finite; room = w .room; ordered = o; rising = r .rising }
 
 -- the state after a new triangle
 abbrev pub moreFaces : Welder → Welder
-moreFaces w = record { base = w .base; count = w .count; places = w .places; faces = w .faces + 1; finite = w .finite; room = w .room; bounds = w .bounds }
+moreFaces w = record { base = w .base; count = w .count; places = w .places; faces = w .faces + 1; near = w .near; finite = w .finite; room = w .room; ordered = w .ordered; rising = w .rising }
 
 -- the mesh after p was looked up
 abbrev pub withVertex : Mesh → Vec3 → Mesh
@@ -63,7 +63,8 @@ pub record TriangleRuns (a b c : ℕ) (w : Welder) (ts : List ℕ) (r : Welder) 
   pub base : r .base ≡ w .base
   pub count : r .count ≡ w .count
   pub places : r .places ≡ w .places
-  pub bounds : r .bounds ≡ w .bounds
+  pub ordered : r .ordered ≡ w .ordered
+  pub row : rowOf r ≡ rowOf w
   pub finite : r .finite ≡ w .finite
   pub faces : r .faces ≤ placesOf ts′
   pub sticky : r .room ≡ true → w .room ≡ true

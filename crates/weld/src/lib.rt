@@ -10,7 +10,6 @@ mod points;
 mod states;
 mod steps;
 
-use bounds::Bounds;
 use math::Vec3;
 pub use points::is_finite;
 pub use points::plus_zero;
@@ -20,16 +19,18 @@ pub use steps::look_up;
 pub use steps::weld_point;
 
 // The state of the welder. `base` vertices belong to the parts before this one, `count` vertices and `faces` triangles are
-// written, and `places` vertices fit. `finite` is false once a point was not finite, `room` once the mesh did not fit. The
-// vertices of this part are inside of `bounds`.
+// written, and `places` vertices fit. `finite` is false once a point was not finite, `room` once the mesh did not fit. While
+// the vertices of this part come row by row, `ordered` is true, and `near` and `rising` are the row of the last one, see `rows`.
 pub struct Welder {
     pub base: usize,
     pub count: usize,
     pub places: usize,
     pub faces: usize,
+    pub near: f64,
     pub finite: bool,
     pub room: bool,
-    pub bounds: Bounds,
+    pub ordered: bool,
+    pub rising: bool,
 }
 
 // The number of a point, and the state after it.
@@ -48,9 +49,11 @@ pub fn begin(vertices: &[f64], work: &[u32]) -> Welder
         count: 0,
         places: states::whole_places(vertices.len()),
         faces: 0,
+        near: 0.0,
         finite: true,
         room: true,
-        bounds: bounds::no_bounds(),
+        ordered: false,
+        rising: false,
     }
 }
 
@@ -63,9 +66,11 @@ pub fn new_part(w: Welder) -> Welder
         count: w.count,
         places: w.places,
         faces: w.faces,
+        near: 0.0,
         finite: w.finite,
         room: w.room,
-        bounds: bounds::no_bounds(),
+        ordered: false,
+        rising: false,
     }
 }
 

@@ -1,10 +1,11 @@
 // The whole places of a slice, and the states in which the welder stops.
 ghost use mathlib.Core.Path.{_≡_};
+ghost use mathlib.Core.Bool.{true, false};
 ghost use Prim.Native.Nat.{_/_, _<_, _^_, min};
-ghost use Rattle.weld.specs.Rep.{limit};
+ghost use Rattle.weld.specs.Rep.{limit, rowOf};
 ghost use Rattle.weld.specs.Steps.{unfinite, shut, more, moreFaces};
 use crate::Welder;
-use bounds::Bounds;
+use rows::Row;
 
 // The whole places of a slice of this length, three entries each, at most 4,294,967,295.
 pub fn whole_places(len: usize) -> usize
@@ -22,15 +23,16 @@ pub fn whole_places(len: usize) -> usize
 pub fn stopped(w: Welder) -> Welder
     ensures { λ r. ⌜ r ≡ unfinite w ⌝ }
 {
-    let bounds = w.bounds;
     Welder {
         base: w.base,
         count: w.count,
         places: w.places,
         faces: w.faces,
+        near: w.near,
         finite: false,
         room: w.room,
-        bounds,
+        ordered: w.ordered,
+        rising: w.rising,
     }
 }
 
@@ -38,31 +40,52 @@ pub fn stopped(w: Welder) -> Welder
 pub fn full(w: Welder) -> Welder
     ensures { λ r. ⌜ r ≡ shut w ⌝ }
 {
-    let bounds = w.bounds;
     Welder {
         base: w.base,
         count: w.count,
         places: w.places,
         faces: w.faces,
+        near: w.near,
         finite: w.finite,
         room: false,
-        bounds,
+        ordered: w.ordered,
+        rising: w.rising,
     }
 }
 
-// The state after a new vertex, with bounds that it is inside of.
-pub fn grown(w: Welder, bounds: Bounds) -> Welder
+// The state after a new vertex that continues the rows.
+pub fn in_row(w: Welder, row: Row) -> Welder
     requires { ⌜ w .count < 2 ^ 32 ⌝ }
-    ensures { λ r. ⌜ r ≡ more w bounds ⌝ }
+    ensures { λ r. ⌜ r ≡ more w row true ⌝ }
 {
     Welder {
         base: w.base,
         count: w.count + 1,
         places: w.places,
         faces: w.faces,
+        near: row.near,
         finite: w.finite,
         room: w.room,
-        bounds,
+        ordered: true,
+        rising: row.rising,
+    }
+}
+
+// The state after a new vertex that does not.
+pub fn out_of_row(w: Welder) -> Welder
+    requires { ⌜ w .count < 2 ^ 32 ⌝ }
+    ensures { λ r. ⌜ r ≡ more w (rowOf w) false ⌝ }
+{
+    Welder {
+        base: w.base,
+        count: w.count + 1,
+        places: w.places,
+        faces: w.faces,
+        near: w.near,
+        finite: w.finite,
+        room: w.room,
+        ordered: false,
+        rising: w.rising,
     }
 }
 
@@ -71,14 +94,15 @@ pub fn with_face(w: Welder) -> Welder
     requires { ⌜ w .faces < 2 ^ 32 ⌝ }
     ensures { λ r. ⌜ r ≡ moreFaces w ⌝ }
 {
-    let bounds = w.bounds;
     Welder {
         base: w.base,
         count: w.count,
         places: w.places,
         faces: w.faces + 1,
+        near: w.near,
         finite: w.finite,
         room: w.room,
-        bounds,
+        ordered: w.ordered,
+        rising: w.rising,
     }
 }

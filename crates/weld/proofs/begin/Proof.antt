@@ -7,11 +7,8 @@ use Rattle.weld.proofs.begin.Tie as tie
 whole-places-requires : tie.Need-whole-places-requires
 whole-places-requires c κs = search needs
 
-no-bounds-requires : tie.Need-no-bounds-requires
-no-bounds-requires c κs = search needs
-
 returns : tie.Need-returns
-returns c = begun _ _ _ (c .before .whole-places .ensures) (c .before .before .before .before .pre .1) (c .before .before .before .before .pre .0) _
+returns c = begun _ _ _ (c .whole-places .ensures) (c .before .before .before .pre .1) (c .before .before .before .pre .0) (record { near = _; rising = _ }) _
 
 pub begin-spec : {M : Type 1} → statement M
-begin-spec = tie.close (tie.spec whole-places-requires no-bounds-requires returns)
+begin-spec = tie.close (tie.spec whole-places-requires returns)

@@ -1,8 +1,11 @@
 -- `weld::steps::search` meets its contract: a case of proofs/Point.antt for each return. Assumes nothing.
 use borrow.Author.Needs.{needs}
 use mathlib.Core.Path.{refl}
+use mathlib.Core.Bool.{false}
 use native.Mathlib.Omega.{arith}
 use denote.Ref.{now}
+use Rattle.chain.proofs.Chains.{not-both}
+use Rattle.weld.specs.Rep.{rowOf}
 use Rattle.weld.proofs.Places.{places-limit}
 use Rattle.weld.proofs.Point.{point-at, point-full, point-new}
 use Rattle.weld.proofs.steps.search.Statement.{statement}
@@ -34,9 +37,9 @@ returns-2 c =
     let f = c .before .before .before .before .before .place-of .ensures .found (c .if2 .taken) in
     rw (f .1, f .2) (point-at (s .args .w) (now (s .args .vertices)) (now (s .args .work)) (s .pre .0) (s .args .p) (c .before .before .before .before .before .place-of .result) (s .pre .2) (f .0))
 
-grown-requires : tie.Need-grown-requires
-grown-requires c κs =
-    let s = c .before .before .before .before .before .before .before .before .before .before .before .before .before in
+out-of-row-requires : tie.Need-out-of-row-requires
+out-of-row-requires c κs =
+    let s = c .before .before .before .before .before .before .before .before .before .before .before .before in
     omega (arith, places-limit (now (s .args .vertices)), s .pre .0 .places, s .pre .0 .chained .within)
 
 same-length-3 : tie.Need-same-length-3
@@ -47,10 +50,10 @@ same-length-4 c = search needs
 
 returns-3 : tie.Need-returns-3
 returns-3 c =
-    let s = c .before .before .before .before .before .before .before .before .before .before .before .before .before .before in
-    let n = c .before .before .before .before .before .before .before .before .place-of .ensures .new (c .before .before .if3 .taken) in
-    rw (n .3, n .4, c .before .before .if3 .taken, c .grown .ensures)
-    (point-new (s .args .w) (now (s .args .vertices)) (now (s .args .work)) (s .pre .0) (s .args .p) (s .args .w .bounds) (record { has = s .pre .3; keeps = λ q h. h }) (s .pre .1) _ refl (n .2) (s .pre .2) (n .0) (n .1))
+    let s = c .before .before .before .before .before .before .before .before .before .before .before .before .before in
+    let n = c .before .before .before .before .before .before .before .place-of .ensures .new (c .before .if3 .taken) in
+    rw (n .3, n .4, c .before .if3 .taken, c .out-of-row .ensures)
+    (point-new (s .args .w) (now (s .args .vertices)) (now (s .args .work)) (s .pre .0) (s .args .p) (rowOf (s .args .w)) false (λ q. absurd (not-both false q refl)) (s .pre .1) _ refl (n .2) (s .pre .2) (n .0) (n .1))
 
 full-requires-2 : tie.Need-full-requires-2
 full-requires-2 c κs = search needs
@@ -77,7 +80,7 @@ search-spec =
     same-length
     same-length-2
     returns-2
-    grown-requires
+    out-of-row-requires
     same-length-3
     same-length-4
     returns-3

@@ -1,3 +1,3 @@
 -- Laws that the proofs of the functions use.
-pub mod Inside
-pub mod Widening
+pub mod Within
+pub mod Following

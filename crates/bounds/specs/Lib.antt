@@ -1,2 +1,0 @@
--- What the contracts of `bounds` cite: which points are inside of bounds.
-pub mod Bounds
