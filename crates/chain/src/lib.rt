@@ -5,6 +5,7 @@ ghost use Prim.Native.Nat.{_+_, _*_, _<_, _≤_, _^_};
 ghost use lib.ListN.{length};
 ghost use Rattle.trimesh.specs.Mesh.{samePoint};
 ghost use Rattle.chain.specs.Points.{Clean, vertexAt, placed};
+ghost use Rattle.chain.specs.declared.Found.the-variants.{Missing};
 ghost use Rattle.chain.specs.Hash.{spreadOf, bucketOf, Chained, linkedIn, Sought, Placing};
 use math::Vec3;
 
@@ -138,7 +139,7 @@ fn append(
 
 // The number of p: that of the first of the vertices from `base` below `count` that equals it; or `count`, with which it is
 // written; or `count + 1` where no place is left.
-pub fn place_of(
+fn place_of(
     vertices: &mut [f64],
     work: &mut [u32],
     places: usize,
@@ -165,13 +166,42 @@ pub fn place_of(
     }
 }
 
-// Writes p as vertex `count` and puts it at the head of its bucket, with no search: p equals no vertex of the part, as the caller knows.
-pub fn add_new(vertices: &mut [f64], work: &mut [u32], places: usize, count: usize, p: Vec3)
-    requires { ⌜ (3 * places ≤ length (now vertices)) × (2 * places ≤ length (now work)) ⌝ }
-    requires { ⌜ (count < places) × (places < 2 ^ 32) × Clean p ⌝ }
-    ensures { λ _. ⌜ bucketOf places p < places ⌝ }
-    ensures { λ _. ⌜ now (vertices .exit) ≡ placed (now (vertices .entry)) count p ⌝ }
-    ensures { λ _. ⌜ now (work .exit) ≡ linkedIn (now (work .entry)) places count (bucketOf places p) ⌝ }
+// The same for a point that equals none of them, with no search.
+fn add_new(
+    vertices: &mut [f64],
+    work: &mut [u32],
+    places: usize,
+    base: usize,
+    count: usize,
+    p: Vec3,
+) -> usize
+    requires { ⌜ Chained (now vertices) (now work) places base count ⌝ }
+    requires { ⌜ (0 < places) × (places < 2 ^ 32) × Clean p × Sought (now vertices) base count p Missing ⌝ }
+    ensures { λ r. ⌜ Placing places base count p (now (vertices .entry)) (now (work .entry)) r (now (vertices .exit)) (now (work .exit)) ⌝ }
 {
-    append(vertices, work, places, count, bucket_of(p, places), p);
+    if count < places {
+        append(vertices, work, places, count, bucket_of(p, places), p);
+        return count;
+    }
+    count + 1
+}
+
+// The same, where `fresh` tells that p equals none of them.
+pub fn number_of(
+    vertices: &mut [f64],
+    work: &mut [u32],
+    places: usize,
+    base: usize,
+    count: usize,
+    fresh: bool,
+    p: Vec3,
+) -> usize
+    requires { ⌜ Chained (now vertices) (now work) places base count ⌝ }
+    requires { ⌜ (0 < places) × (places < 2 ^ 32) × Clean p × (fresh ≡ true → Sought (now vertices) base count p Missing) ⌝ }
+    ensures { λ r. ⌜ Placing places base count p (now (vertices .entry)) (now (work .entry)) r (now (vertices .exit)) (now (work .exit)) ⌝ }
+{
+    if fresh {
+        return add_new(vertices, work, places, base, count, p);
+    }
+    place_of(vertices, work, places, base, count, p)
 }

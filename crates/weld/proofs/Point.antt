@@ -16,14 +16,14 @@ use Rattle.trimesh.specs.Slices.{flatV}
 use Rattle.trimesh.specs.WeldLaws.{sight-at, sight-none, with-seen, with-new, with-longer, flatV-append}
 use Rattle.chain.specs.declared.Found.the-variants.{Missing}
 use Rattle.weld.specs.declared.Welder.{Welder}
+use Rattle.weld.specs.declared.Foreseen.{Foreseen}
 use Rattle.chain.specs.Points.{Clean, vertexAt, placed}
 use Rattle.chain.specs.Hash.{bucketOf, linkedIn, FirstAt, Sought}
-use Rattle.rows.specs.declared.Row.{Row}
-use Rattle.rows.specs.Rows.{within, Follows}
-use Rattle.weld.specs.Rep.{Held, held, rowOf, InRow, Linked, Holds, Over, Rep}
-use Rattle.weld.specs.Steps.{shut, more, withVertex, PointRuns}
+use Rattle.rows.specs.Rows.{within}
+use Rattle.weld.specs.Rep.{Held, held, InRow, Linked, Holds, Over, Rep}
+use Rattle.weld.specs.Steps.{shut, more, rowSeen, withVertex, PointRuns}
 use Rattle.weld.proofs.Places.{take-three, take-vertex, flatV-at, places-limit, places-long}
-use Rattle.chain.proofs.Clean.{clean-self, same-data}
+use Rattle.chain.proofs.Clean.{clean-self}
 use Rattle.chain.proofs.Places.{placed-at, placed-before}
 use Rattle.chain.proofs.Chains.{not-both, first-stays, first-new, chain-more}
 
@@ -158,19 +158,9 @@ module _ (w : Welder) (vs : List Float) (ws : List ℕ) (L : Linked w vs ws) (p 
   abbrev vs₁ : List Float
   vs₁ = placed vs (w .count) p
 
-  -- a point that is not within the rows equals no vertex of this part
-  pub outside : Clean p → w .ordered ≡ true → within (rowOf w) (vertexAt vs (w .count - 1)) p ≡ false → Sought vs (w .base) (w .count) p Missing
-  outside cp e o m a k s =
-      not-both (within (rowOf w) (vertexAt vs (w .count - 1)) p)
-      (sym (ap (within (rowOf w) (vertexAt vs (w .count - 1))) (same-data (vertexAt vs m) p (L .chained .clean m k) cp s)) ∙ L .rows e m a k) o
-
-  -- the row after such a point
-  pub in-row : (r : Row) → w .ordered ≡ true → Follows (rowOf w) (vertexAt vs (w .count - 1)) p r → InRow (w .base) (w .count) vs p r
-  in-row r e F = record { has = F .has; keeps = λ m a k. F .keeps (vertexAt vs m) (L .chained .clean m k) (L .rows e m a k) }
-
-  -- the state after p became a vertex, in a row or not
-  module _ (r : Row) (o : Bool) (W : o ≡ true → InRow (w .base) (w .count) vs p r) where
-    held-more : (M : Mesh) (ts ws′ : List ℕ) → w .count < w .places → Holds M (here ts) → Holds (more-vertex M p) (held (more w r o) vs₁ ts ws′)
+  -- the state after p became a vertex
+  module _ (f : Foreseen) (W : f .fresh ≡ true → InRow (w .base) (w .count) vs p (rowSeen f)) where
+    held-more : (M : Mesh) (ts ws′ : List ℕ) → w .count < w .places → Holds M (here ts) → Holds (more-vertex M p) (held (more w f) vs₁ ts ws′)
     held-more M ts ws′ k H =
         record {
           vertices =
@@ -182,19 +172,19 @@ module _ (w : Welder) (vs : List Float) (ws : List ℕ) (L : Linked w vs ws) (p 
           faces = H .faces;
         }
 
-    rows-more : w .count < w .places → o ≡ true → (m : ℕ) → w .base ≤ m → m < w .count + 1 → within r (vertexAt vs₁ (w .count + 1 - 1)) (vertexAt vs₁ m) ≡ true
+    rows-more : w .count < w .places → f .fresh ≡ true → (m : ℕ) → w .base ≤ m → m < w .count + 1 → within (rowSeen f) (vertexAt vs₁ (w .count + 1 - 1)) (vertexAt vs₁ m) ≡ true
     rows-more k q m a l =
-        ap (λ (v : Vec3). within r v (vertexAt vs₁ m)) (ap (vertexAt vs₁) (add-sub-cancel (w .count) 1) ∙ last)
+        ap (λ (v : Vec3). within (rowSeen f) v (vertexAt vs₁ m)) (ap (vertexAt vs₁) (add-sub-cancel (w .count) 1) ∙ last)
         ∙ ⊎-elim
-        (λ e. ap (λ (n : ℕ). within r p (vertexAt vs₁ n)) e ∙ ap (within r p) last ∙ W q .has)
-        (λ j. ap (within r p) (placed-before vs (w .count) p m j) ∙ W q .keeps m a j)
+        (λ e. ap (λ (n : ℕ). within (rowSeen f) p (vertexAt vs₁ n)) e ∙ ap (within (rowSeen f) p) last ∙ W q .has)
+        (λ j. ap (within (rowSeen f) p) (placed-before vs (w .count) p m j) ∙ W q .keeps m a j)
         (eq-or-lt-of-le {n = m} {m = w .count} (omega arith))
       where
         last : vertexAt vs₁ (w .count) ≡ p
         last = placed-at vs (w .count) p (omega (arith, L .chained .room))
 
     pub point-new : Clean p → (b : ℕ) → b ≡ bucketOf (w .places) p → b < w .places → w .room ≡ true → Sought vs (w .base) (w .count) p Missing → w .count < w .places
-        → PointRuns p w vs ws (record { number = w .count; st = more w r o }) vs₁ (linkedIn ws (w .places) (w .count) b)
+        → PointRuns p w vs ws (record { number = w .count; st = more w f }) vs₁ (linkedIn ws (w .places) (w .count) b)
     point-new cp b eb bl e F k =
         record {
           linked = record {
@@ -208,7 +198,7 @@ module _ (w : Welder) (vs : List Float) (ws : List ℕ) (L : Linked w vs ws) (p 
           small = omega (arith, L .places, places-limit vs);
           rep = λ D S ts R. record {
             base = R .base;
-            holds = λ q. subst (λ (M : Mesh). Holds M (held (more w r o) vs₁ ts (linkedIn ws (w .places) (w .count) b))) (sym (grown D S p (unseen D S ts e F R)))
+            holds = λ q. subst (λ (M : Mesh). Holds M (held (more w f) vs₁ ts (linkedIn ws (w .places) (w .count) b))) (sym (grown D S p (unseen D S ts e F R)))
                 (held-more (append D S) ts (linkedIn ws (w .places) (w .count) b) k (R .holds q));
             over = λ q. absurd (not-both (w .room) e q);
           };

@@ -12,7 +12,7 @@ use Rattle.balance.specs.Buffer.{flat}
 use Rattle.trimesh.specs.Mesh.{Mesh, noMesh, append, weldSoup, everyFinite}
 use Rattle.trimesh.specs.Slices.{flatV}
 use Rattle.weld.specs.declared.Welder.{Welder}
-use Rattle.chain.specs.Points.{vertexAt}
+use Rattle.chain.specs.Points.{Clean, vertexAt}
 use Rattle.chain.specs.Hash.{Chained}
 use Rattle.rows.specs.declared.Row.{Row}
 use Rattle.rows.specs.Rows.{within}
@@ -44,7 +44,14 @@ pub record InRow (base count : ℕ) (vs : List Float) (p : Vec3) (r : Row) : Typ
   pub has : within r p p ≡ true
   pub keeps : (m : ℕ) → base ≤ m → m < count → within r p (vertexAt vs m) ≡ true
 
--- the chains stand, `places` counts the places for vertices, and where `ordered` says so those of this part came row by row
+-- where `ordered` says so, the vertices of this part came row by row
+pub record InRows (w : Welder) (vs : List Float) : Type 0 where
+  pub room : 3 * w .count ≤ length vs
+  pub based : w .base ≤ w .count
+  pub clean : (m : ℕ) → m < w .count → Clean (vertexAt vs m)
+  pub rows : w .ordered ≡ true → (m : ℕ) → w .base ≤ m → m < w .count → within (rowOf w) (vertexAt vs (w .count - 1)) (vertexAt vs m) ≡ true
+
+-- the chains stand, `places` counts the places for vertices, and the vertices of this part came row by row where `ordered` says so
 pub record Linked (w : Welder) (vs : List Float) (ws : List ℕ) : Type 0 where
   pub chained : Chained vs ws (w .places) (w .base) (w .count)
   pub places : w .places ≡ placesOf vs

@@ -1,6 +1,6 @@
 -- The steps of one turn of from_soup's loop, for points that came out of `+ 0.0`, and what each does to the slices. Definitions only.
 use mathlib.Core.Path.{_≡_}
-use mathlib.Core.Bool.{Bool, true, false, cond}
+use mathlib.Core.Bool.{true, false, cond}
 use mathlib.Core.List.{List, [], _∷_, _++_}
 use Prim.Native.Nat.{ℕ, _+_, _≤_, _<_, _^_}
 use lib.ListN.{length}
@@ -10,9 +10,11 @@ use Rattle.balance.specs.Soup.{Tri}
 use Rattle.trimesh.specs.Mesh.{Mesh, firstSight, withPoint, distinct}
 use Rattle.weld.specs.declared.Welder.{Welder}
 use Rattle.weld.specs.declared.Welded.{Welded}
-use Rattle.chain.specs.Hash.{FirstAt}
+use Rattle.weld.specs.declared.Foreseen.{Foreseen}
+use Rattle.chain.specs.declared.Found.the-variants.{Missing}
+use Rattle.chain.specs.Hash.{FirstAt, Sought}
 use Rattle.rows.specs.declared.Row.{Row}
-use Rattle.weld.specs.Rep.{Held, held, placesOf, rowOf, Linked, Ready, Rep}
+use Rattle.weld.specs.Rep.{Held, held, placesOf, rowOf, InRow, Linked, Ready, Rep}
 
 -- the state after a point that is not finite
 abbrev pub unfinite : Welder → Welder
@@ -22,9 +24,21 @@ unfinite w = record { base = w .base; count = w .count; places = w .places; face
 abbrev pub shut : Welder → Welder
 shut w = record { base = w .base; count = w .count; places = w .places; faces = w .faces; near = w .near; finite = w .finite; room = false; ordered = w .ordered; rising = w .rising }
 
--- the state after a new vertex, in the row r where o is true
-abbrev pub more : Welder → Row → Bool → Welder
-more w r o = record { base = w .base; count = w .count + 1; places = w .places; faces = w .faces; near = r .near; finite = w .finite; room = w .room; ordered = o; rising = r .rising }
+-- the row that was foreseen, and a new point in a row
+abbrev pub rowSeen : Foreseen → Row
+rowSeen f = record { near = f .near; rising = f .rising }
+
+abbrev pub freshIn : Row → Foreseen
+freshIn r = record { near = r .near; fresh = true; rising = r .rising }
+
+-- what the rows show of p is so: it equals no vertex of this part, and the row after it is the one foreseen
+pub record Foresees (w : Welder) (vs : List Float) (p : Vec3) (f : Foreseen) : Type 0 where
+  pub missing : f .fresh ≡ true → Sought vs (w .base) (w .count) p Missing
+  pub row : f .fresh ≡ true → InRow (w .base) (w .count) vs p (rowSeen f)
+
+-- the state after a new vertex of which f was foreseen
+abbrev pub more : Welder → Foreseen → Welder
+more w f = record { base = w .base; count = w .count + 1; places = w .places; faces = w .faces; near = f .near; finite = w .finite; room = w .room; ordered = f .fresh; rising = f .rising }
 
 -- the state after a new triangle
 abbrev pub moreFaces : Welder → Welder

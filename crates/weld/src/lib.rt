@@ -6,6 +6,7 @@ ghost use Prim.Native.Nat.{ℕ, _*_, _/_, _≤_};
 ghost use lib.ListN.{length, getD};
 ghost use Rattle.weld.specs.Rep.{held, Ready, Runs, Begun, Parted};
 
+mod foresight;
 mod points;
 mod states;
 mod steps;
@@ -37,6 +38,13 @@ pub struct Welder {
 pub struct Welded {
     pub number: usize,
     pub st: Welder,
+}
+
+// What is seen of a point before a search: whether it is new, and the row after it.
+pub struct Foreseen {
+    pub near: f64,
+    pub fresh: bool,
+    pub rising: bool,
 }
 
 // Nothing is welded yet. The work slice is all zero.

@@ -1,11 +1,10 @@
 // The whole places of a slice, and the states in which the welder stops.
 ghost use mathlib.Core.Path.{_≡_};
-ghost use mathlib.Core.Bool.{true, false};
 ghost use Prim.Native.Nat.{_/_, _<_, _^_, min};
-ghost use Rattle.weld.specs.Rep.{limit, rowOf};
+ghost use Rattle.weld.specs.Rep.{limit};
 ghost use Rattle.weld.specs.Steps.{unfinite, shut, more, moreFaces};
+use crate::Foreseen;
 use crate::Welder;
-use rows::Row;
 
 // The whole places of a slice of this length, three entries each, at most 4,294,967,295.
 pub fn whole_places(len: usize) -> usize
@@ -53,39 +52,21 @@ pub fn full(w: Welder) -> Welder
     }
 }
 
-// The state after a new vertex that continues the rows.
-pub fn in_row(w: Welder, row: Row) -> Welder
+// The state after a new vertex.
+pub fn grown(w: Welder, f: Foreseen) -> Welder
     requires { ⌜ w .count < 2 ^ 32 ⌝ }
-    ensures { λ r. ⌜ r ≡ more w row true ⌝ }
+    ensures { λ r. ⌜ r ≡ more w f ⌝ }
 {
     Welder {
         base: w.base,
         count: w.count + 1,
         places: w.places,
         faces: w.faces,
-        near: row.near,
+        near: f.near,
         finite: w.finite,
         room: w.room,
-        ordered: true,
-        rising: row.rising,
-    }
-}
-
-// The state after a new vertex that does not.
-pub fn out_of_row(w: Welder) -> Welder
-    requires { ⌜ w .count < 2 ^ 32 ⌝ }
-    ensures { λ r. ⌜ r ≡ more w (rowOf w) false ⌝ }
-{
-    Welder {
-        base: w.base,
-        count: w.count + 1,
-        places: w.places,
-        faces: w.faces,
-        near: w.near,
-        finite: w.finite,
-        room: w.room,
-        ordered: false,
-        rising: w.rising,
+        ordered: f.fresh,
+        rising: f.rising,
     }
 }
 

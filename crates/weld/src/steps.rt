@@ -1,17 +1,13 @@
 // The steps of one turn of from_soup's loop, for points that came out of `+ 0.0`.
-ghost use mathlib.Core.Path.{_≡_};
-ghost use mathlib.Core.Bool.{true};
 ghost use Prim.Native.Nat.{_≤_, _<_, _^_};
 ghost use Rattle.chain.specs.Points.{Clean};
-ghost use Rattle.chain.specs.Hash.{Sought};
-ghost use Rattle.chain.specs.declared.Found.the-variants.{Missing};
-ghost use Rattle.weld.specs.Rep.{held, placesOf, InRow, Linked, Ready};
+ghost use Rattle.weld.specs.Rep.{held, placesOf, Linked, Ready};
 ghost use Rattle.weld.specs.Steps.{PointRuns, TriangleRuns, PointsRun};
 use crate::Welded;
 use crate::Welder;
+use crate::foresight;
 use crate::states;
 use math::Vec3;
-use rows::Row;
 
 // One turn of from_soup's loop after `+ 0.0`: the three points get numbers, and the triangle stays where the numbers differ.
 pub fn weld_points(
@@ -62,89 +58,37 @@ pub fn weld_point(
     look_up(vertices, work, w, p)
 }
 
-// Gives a point its number: that of the first equal vertex of this part, or the next one, with which it is written. The first point of a
-// part needs no search, nor one that continues the rows.
+// Gives a point its number: that of the first equal vertex of this part, or the next one, with which it is written.
 pub fn look_up(vertices: &mut [f64], work: &mut [u32], w: Welder, p: Vec3) -> Welded
     requires { ⌜ Linked w (now vertices) (now work) × Clean p ⌝ }
     ensures { λ r. ⌜ PointRuns p w (now (vertices .entry)) (now (work .entry)) r (now (vertices .exit)) (now (work .exit)) ⌝ }
 {
+    let count = w.count;
+    let places = w.places;
     let room = w.room;
     if !room {
         return Welded { number: 0, st: w };
     }
-    if w.base == w.count {
-        return add_new(vertices, work, w, p, rows::first_row(p));
-    }
-    let ordered = w.ordered;
-    if ordered {
-        return go_on(vertices, work, w, p);
-    }
-    search(vertices, work, w, p)
-}
-
-// The same where the vertices came row by row.
-fn go_on(vertices: &mut [f64], work: &mut [u32], w: Welder, p: Vec3) -> Welded
-    requires { ⌜ Linked w (now vertices) (now work) × Clean p × (w .room ≡ true) × (w .base < w .count) × (w .ordered ≡ true) ⌝ }
-    ensures { λ r. ⌜ PointRuns p w (now (vertices .entry)) (now (work .entry)) r (now (vertices .exit)) (now (work .exit)) ⌝ }
-{
-    let row = Row {
-        near: w.near,
-        rising: w.rising,
-    };
-    let last = chain::vertex(vertices, w.count - 1);
-    if rows::is_within(row, last, p) {
-        return search(vertices, work, w, p);
-    }
-    add_new(vertices, work, w, p, rows::next_row(row, last, p))
-}
-
-// The same by the chains.
-fn search(vertices: &mut [f64], work: &mut [u32], w: Welder, p: Vec3) -> Welded
-    requires { ⌜ Linked w (now vertices) (now work) × Clean p × (w .room ≡ true) ⌝ }
-    ensures { λ r. ⌜ PointRuns p w (now (vertices .entry)) (now (work .entry)) r (now (vertices .exit)) (now (work .exit)) ⌝ }
-{
-    let count = w.count;
-    let places = w.places;
     if places == 0 {
         return Welded {
             number: 0,
             st: states::full(w),
         };
     }
-    let number = chain::place_of(vertices, work, places, w.base, count, p);
+    let f = foresight::foresee(vertices, w, p);
+    let number = chain::number_of(vertices, work, places, w.base, count, f.fresh, p);
     if number < count {
         return Welded { number, st: w };
     }
     if number == count {
         return Welded {
             number,
-            st: states::out_of_row(w),
+            st: states::grown(w, f),
         };
     }
     Welded {
         number: 0,
         st: states::full(w),
-    }
-}
-
-// The same for a point that equals no vertex of this part, and the row after it.
-fn add_new(vertices: &mut [f64], work: &mut [u32], w: Welder, p: Vec3, row: Row) -> Welded
-    requires { ⌜ Linked w (now vertices) (now work) × Clean p × (w .room ≡ true) ⌝ }
-    requires { ⌜ Sought (now vertices) (w .base) (w .count) p Missing × InRow (w .base) (w .count) (now vertices) p row ⌝ }
-    ensures { λ r. ⌜ PointRuns p w (now (vertices .entry)) (now (work .entry)) r (now (vertices .exit)) (now (work .exit)) ⌝ }
-{
-    let count = w.count;
-    let places = w.places;
-    if places <= count {
-        return Welded {
-            number: 0,
-            st: states::full(w),
-        };
-    }
-    chain::add_new(vertices, work, places, count, p);
-    Welded {
-        number: count,
-        st: states::in_row(w, row),
     }
 }
 
