@@ -11,7 +11,7 @@ use Rattle.trimesh.specs.Mesh.{samePoint, plusZeroV, finiteV}
 use Rattle.trimesh.specs.SelfSame.{zero-bits}
 use Rattle.chain.specs.Points.{CleanFloat, Clean}
 
-eq-data : (x y : Float) → CleanFloat x → CleanFloat y → T (eq x y) → x ≡ y
+pub eq-data : (x y : Float) → CleanFloat x → CleanFloat y → T (eq x y) → x ≡ y
 eq-data x y a b e = sym (a .canonical) ∙ same→canon x y (eq→same binary64 x y (a .fit) (b .fit) e) ∙ b .canonical
 
 pub same-data : (p q : Vec3) → Clean p → Clean q → samePoint p q ≡ true → p ≡ q

@@ -2,4 +2,3 @@
 pub mod Clean
 pub mod Places
 pub mod Chains
-pub mod Following

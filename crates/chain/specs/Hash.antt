@@ -2,9 +2,9 @@
 use mathlib.Core.Path.{_≡_}
 use mathlib.Core.Bool.{true, cond}
 use mathlib.Core.List.{List}
-use Prim.Native.Nat.{ℕ, zero, suc, _+_, _-_, _*_, _/_, _%_, _≤_, _<_}
+use Prim.Native.Nat.{ℕ, zero, suc, _+_, _*_, _/_, _%_, _≤_, _<_}
 use lib.ListN.{length, getD, set}
-use lib.Dec.{eqb, ltb}
+use lib.Dec.{eqb}
 use lib.Ieee.{Float, toBits, binary64}
 use Rattle.math.specs.declared.Vec3.{Vec3}
 use Rattle.trimesh.specs.Mesh.{samePoint}
@@ -42,14 +42,6 @@ pub record Chained (vs : List Float) (ws : List ℕ) (places base count : ℕ) :
 -- the work slice with vertex n put at the head of the bucket b
 abbrev pub linkedIn : List ℕ → ℕ → ℕ → ℕ → List ℕ
 linkedIn ws places n b = set (set ws (places + n) (getD ws b 0)) b (n + 1)
-
--- no part of the Rust, for guesses: the head of a point's chain, which is one more than the number of the latest vertex of its bucket, or 0
-abbrev pub headOf : List ℕ → ℕ → Vec3 → ℕ
-headOf ws places p = getD ws (bucketOf places p) 0
-
--- no part of the Rust, for guesses: a step along a chain at k, which is one more than the number of a vertex: k where that vertex equals p, else what follows it; 0 where there is no such vertex. Vertex 0 is taken for k = 0.
-unfoldable pub followed : List Float → List ℕ → ℕ → ℕ → ℕ → Vec3 → ℕ
-followed vs ws places count k p = cond (ltb (k - 1) count) (cond (samePoint (vertexAt vs (k - 1)) p) k (getD ws (places + (k - 1)) 0)) 0
 
 -- m is the first of the vertices from base below count that equals p
 pub record FirstAt (vs : List Float) (base count : ℕ) (p : Vec3) (m : ℕ) : Type 0 where

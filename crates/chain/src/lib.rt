@@ -1,11 +1,12 @@
 // The hash chains in the work slice. They find the vertex that equals a point, as the `HashMap` of from_soup does.
 ghost use mathlib.Core.Path.{_≡_};
 ghost use mathlib.Core.Bool.{true};
-ghost use Prim.Native.Nat.{_+_, _-_, _*_, _<_, _≤_, _^_};
+ghost use Prim.Native.Nat.{_+_, _*_, _<_, _≤_, _^_};
 ghost use lib.ListN.{length};
 ghost use Rattle.trimesh.specs.Mesh.{samePoint};
 ghost use Rattle.chain.specs.Points.{Clean, vertexAt, placed};
-ghost use Rattle.chain.specs.Hash.{spreadOf, bucketOf, Chained, linkedIn, Sought, Placing, headOf, followed};
+ghost use Rattle.chain.specs.declared.Found.the-variants.{Missing};
+ghost use Rattle.chain.specs.Hash.{spreadOf, bucketOf, Chained, linkedIn, Sought, Placing};
 use math::Vec3;
 
 // What a look-up finds: the number of a vertex, or none.
@@ -54,7 +55,7 @@ fn equal(a: Vec3, b: Vec3) -> bool
 }
 
 // Vertex m.
-fn vertex(vertices: &[f64], m: usize) -> Vec3
+pub fn vertex(vertices: &[f64], m: usize) -> Vec3
     requires { ⌜ 3 * m + 3 ≤ length (now vertices) ⌝ }
     ensures { λ r. ⌜ r ≡ vertexAt (now (vertices .entry)) m ⌝ }
 {
@@ -138,7 +139,7 @@ fn append(
 
 // The number of p: that of the first of the vertices from `base` below `count` that equals it; or `count`, with which it is
 // written; or `count + 1` where no place is left.
-pub fn place_of(
+fn place_of(
     vertices: &mut [f64],
     work: &mut [u32],
     places: usize,
@@ -165,42 +166,42 @@ pub fn place_of(
     }
 }
 
-// The head of p's chain: one more than the number of a vertex, or 0.
-pub fn head(work: &[u32], places: usize, p: Vec3) -> usize
-    requires { ⌜ (0 < places) × (places < 2 ^ 32) × Clean p ⌝ }
-    requires { ⌜ places ≤ length (now work) ⌝ }
-    ensures { λ r. ⌜ r ≡ headOf (now (work .entry)) places p ⌝ }
-{
-    let bucket = bucket_of(p, places);
-    wide(work[bucket])
-}
-
-// One less than k, and 0 for 0.
-fn less_one(k: usize) -> usize
-    ensures { λ r. ⌜ r ≡ k - 1 ⌝ }
-{
-    if 0 < k { k - 1 } else { 0 }
-}
-
-// A step along a chain: k where vertex k − 1 equals p, else what follows k. There is no test whether the chain ends at 0: nobody can
-// foretell it, and the processor would wait for it. Vertex 0 is read then.
-pub fn follow(
-    vertices: &[f64],
-    work: &[u32],
+// The same for a point that equals none of them, with no search.
+fn add_new(
+    vertices: &mut [f64],
+    work: &mut [u32],
     places: usize,
+    base: usize,
     count: usize,
-    k: usize,
     p: Vec3,
 ) -> usize
-    requires { ⌜ (3 * places ≤ length (now vertices)) × (2 * places ≤ length (now work)) × (count ≤ places) ⌝ }
-    ensures { λ r. ⌜ r ≡ followed (now (vertices .entry)) (now (work .entry)) places count k p ⌝ }
+    requires { ⌜ Chained (now vertices) (now work) places base count ⌝ }
+    requires { ⌜ (0 < places) × (places < 2 ^ 32) × Clean p × Sought (now vertices) base count p Missing ⌝ }
+    ensures { λ r. ⌜ Placing places base count p (now (vertices .entry)) (now (work .entry)) r (now (vertices .exit)) (now (work .exit)) ⌝ }
 {
-    let m = less_one(k);
-    if m >= count {
-        return 0;
+    if count < places {
+        append(vertices, work, places, count, bucket_of(p, places), p);
+        return count;
     }
-    if equal(vertex(vertices, m), p) {
-        return k;
+    count + 1
+}
+
+// The same, where `fresh` tells that p equals none of them.
+pub fn number_of(
+    vertices: &mut [f64],
+    work: &mut [u32],
+    places: usize,
+    base: usize,
+    count: usize,
+    fresh: bool,
+    p: Vec3,
+) -> usize
+    requires { ⌜ Chained (now vertices) (now work) places base count ⌝ }
+    requires { ⌜ (0 < places) × (places < 2 ^ 32) × Clean p × (fresh ≡ true → Sought (now vertices) base count p Missing) ⌝ }
+    ensures { λ r. ⌜ Placing places base count p (now (vertices .entry)) (now (work .entry)) r (now (vertices .exit)) (now (work .exit)) ⌝ }
+{
+    if fresh {
+        return add_new(vertices, work, places, base, count, p);
     }
-    wide(work[places + m])
+    place_of(vertices, work, places, base, count, p)
 }

@@ -8,7 +8,6 @@ ghost use Rattle.surfaces.specs.Turns.{Tabled};
 ghost use Rattle.soups.specs.Surface.{surfaceAt};
 ghost use Rattle.soups.specs.Grid as Grid;
 ghost use Rattle.grids.specs.Cell.{turned};
-use crate::ahead;
 use crate::guesses;
 use math::Vec3;
 use quads::Quad;
@@ -72,18 +71,6 @@ fn weld_row(
         (held w (now (vertices .entry)) (now (triangles .entry)) (now (work .entry)))
         (held r (now (vertices .exit)) (now (triangles .exit)) (now (work .exit))) ⌝ }
 {
-    let first = ahead::look_ahead(
-        vertices,
-        work,
-        w,
-        s,
-        corners,
-        rows,
-        cols,
-        numbers,
-        i + 1,
-        nv,
-    );
     let mut st = w;
     let mut a = surfaces::surface_point(s, corners, rows, cols, i, 0);
     let mut b = surfaces::surface_point(s, corners, rows, cols, i + 1, 0);
@@ -95,9 +82,8 @@ fn weld_row(
         let d = surfaces::surface_point(s, corners, rows, cols, i, j + 1);
         let c = surfaces::surface_point(s, corners, rows, cols, i + 1, j + 1);
         let nd = guesses::same_or(d, a, na, numbers[j + 1]);
-        let on = guesses::onward(last, nb, st.count);
-        let seen = guesses::ahead_or(numbers, first, j + 1, on);
-        let nc = guesses::same_or(c, b, nb, guesses::same_or(c, d, nd, seen));
+        let beside = guesses::same_or(c, d, nd, guesses::onward(last, nb, st.count));
+        let nc = guesses::same_or(c, b, nb, beside);
         let q = weld_cell(
             vertices,
             triangles,

@@ -1,7 +1,6 @@
 // Guesses at the numbers of points. The welder tests each, so a wrong one costs a look-up and nothing else.
 ghost use mathlib.Core.Path.{_≡_};
 ghost use mathlib.Core.Bool.{cond};
-ghost use Prim.Native.Nat.{_≤_};
 ghost use Rattle.trimesh.specs.Mesh.{samePoint};
 use math::Vec3;
 
@@ -28,21 +27,4 @@ pub fn onward(last: usize, n: usize, none: usize) -> usize {
         }
     }
     none
-}
-
-// The guess at point j of the row at which the welder looked ahead: one less than what that left in `numbers` from `first` on. Another
-// guess where it left 0, or first is 0.
-pub fn ahead_or(numbers: &[usize], first: usize, j: usize, other: usize) -> usize
-    requires { ⌜ (first ≤ 1025) × (j ≤ 1024) ⌝ }
-{
-    if 0 < first {
-        let at = first + j;
-        if at < numbers.len() {
-            let k = numbers[at];
-            if 0 < k {
-                return k - 1;
-            }
-        }
-    }
-    other
 }

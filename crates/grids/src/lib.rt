@@ -1,5 +1,4 @@
 // Grids over surfaces, streamed into the welder: Soup::quad and Soup::grid of src/tessellate.rs.
-mod ahead;
 mod grid;
 mod guesses;
 

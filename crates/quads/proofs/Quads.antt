@@ -45,7 +45,7 @@ pub quad-stops : (w : Welder) (vs : List Float) (ts ws : List ℕ) (a b c d : Ve
 unfolding everyFinite
 quad-stops w vs ts ws a b c d R n =
     record {
-      ready = record { linked = record { chained = R .linked .chained; places = R .linked .places }; faces = R .faces };
+      ready = record { linked = record { chained = R .linked .chained; places = R .linked .places; rows = R .linked .rows }; faces = R .faces };
       vlong = refl;
       tlong = refl;
       wlong = refl;
@@ -86,7 +86,7 @@ module _ (w : Welder) (vs : List Float) (ts ws : List ℕ) (R : Ready (held w vs
       → length vs′ ≡ length vs → length ts₁ ≡ length ts → length ts₂ ≡ length ts₁ → length ws′ ≡ length ws → na < 2 ^ 32 → nb < 2 ^ 32 → nd < 2 ^ 32
       → LastRuns c na nb nd (held w vs ts ws) (held v vs′ ts₂ ws′)
   last-runs c na nb nd t vs′ ws′ u ts₁ v ts₂ P T₁ T₂ lv lt lt₂ lw sa sb sd a b d ca cb cd A B D =
-      let L₁ = linked-moved (t .st) u (T₁ .base) (T₁ .count) (T₁ .places) (P .linked) in
+      let L₁ = linked-moved (t .st) u (T₁ .base) (T₁ .count) (T₁ .places) (T₁ .ordered) (T₁ .row) (P .linked) in
       let known : (p : Vec3) (m : ℕ) → FirstAt vs (w .base) (w .count) p m → u .room ≡ true → FirstAt vs′ (u .base) (u .count) p m =
       λ p m F q. rw (T₁ .base, T₁ .count) (P .stays (T₁ .sticky q) p m F) in
       quad-points a b c d (held w vs ts ws) (held u vs′ ts₁ ws′) (held v vs′ ts₂ ws′)
@@ -108,7 +108,7 @@ pub both-runs : (a b c d : Vec3) (w : Welder) (vs : List Float) (ts ws : List �
     → length vs₃ ≡ length vs → length vs₄ ≡ length vs₃ → length ts₁ ≡ length ts → length ts₂ ≡ length ts₁ → length ws₃ ≡ length ws → length ws₄ ≡ length ws₃
     → QuadRuns a b c d (held w vs ts ws) (held v vs₄ ts₂ ws₄)
 both-runs a b c d w vs ts ws pa vs₁ ws₁ pb vs₂ ws₂ pc vs₃ ws₃ u ts₁ pd vs₄ ws₄ v ts₂ A B C T₁ E T₂ lv lv₂ lt lt₂ lw lw₂ =
-    let L₁ = linked-moved (pc .st) u (T₁ .base) (T₁ .count) (T₁ .places) (C .linked) in
+    let L₁ = linked-moved (pc .st) u (T₁ .base) (T₁ .count) (T₁ .places) (T₁ .ordered) (T₁ .row) (C .linked) in
     quad-points a b c d (held w vs ts ws) (held u vs₃ ts₁ ws₃) (held v vs₄ ts₂ ws₄)
     (points-run a b c w vs ts ws pa vs₁ ws₁ pb vs₂ ws₂ pc vs₃ ws₃ u ts₁ A B C T₁ lv lt lw)
     (points-run a c d u vs₃ ts₁ ws₃ (record { number = pa .number; st = u }) vs₃ ws₃ (record { number = pc .number; st = u }) vs₃ ws₃ pd vs₄ ws₄ v ts₂

@@ -37,7 +37,7 @@ pub fn weld_sphere(
     let none = [0.0; 2];
     let mut rows = [0.0; 2050];
     let mut cols = [0.0; 2050];
-    let mut numbers = [0usize; 2050];
+    let mut numbers = [0usize; 1025];
     surfaces::fill_turns(Turns::Latitudes { nt }, nt, &mut rows);
     surfaces::fill_turns(Turns::Longitudes { np }, np, &mut cols);
     let s = Surface::Sphere { c, r, nt, np };

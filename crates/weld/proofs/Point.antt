@@ -2,8 +2,9 @@
 use mathlib.Core.Path.{_≡_, refl, sym, ap, _∙_, subst}
 use mathlib.Core.Bool.{Bool, true, false}
 use mathlib.Core.List.{List, [], _∷_, _++_, map, append-assoc}
-use mathlib.Core.Logic.{inl, inr}
+use mathlib.Core.Logic.{⊎-elim, inl, inr}
 use Prim.Native.Nat.{ℕ, _+_, _-_, _*_, _≤_, _<_, _^_}
+use native.Mathlib.Nat.{eq-or-lt-of-le, add-sub-cancel}
 use native.Mathlib.Omega.{arith}
 use lib.ListN.{length, getD, take, length-set, length-append, length-map}
 use lib.Seq.{getD-append-add}
@@ -15,12 +16,15 @@ use Rattle.trimesh.specs.Slices.{flatV}
 use Rattle.trimesh.specs.WeldLaws.{sight-at, sight-none, with-seen, with-new, with-longer, flatV-append}
 use Rattle.chain.specs.declared.Found.the-variants.{Missing}
 use Rattle.weld.specs.declared.Welder.{Welder}
+use Rattle.weld.specs.declared.Foreseen.{Foreseen}
 use Rattle.chain.specs.Points.{Clean, vertexAt, placed}
 use Rattle.chain.specs.Hash.{bucketOf, linkedIn, FirstAt, Sought}
-use Rattle.weld.specs.Rep.{Held, held, Linked, Holds, Over, Rep}
-use Rattle.weld.specs.Steps.{shut, withVertex, PointRuns}
+use Rattle.rows.specs.Rows.{within}
+use Rattle.weld.specs.Rep.{Held, held, InRow, Linked, Holds, Over, Rep}
+use Rattle.weld.specs.Steps.{shut, more, rowSeen, withVertex, PointRuns}
 use Rattle.weld.proofs.Places.{take-three, take-vertex, flatV-at, places-limit, places-long}
 use Rattle.chain.proofs.Clean.{clean-self}
+use Rattle.chain.proofs.Places.{placed-at, placed-before}
 use Rattle.chain.proofs.Chains.{not-both, first-stays, first-new, chain-more}
 
 -- ---- a look-up in the slice is a look-up in the part
@@ -135,7 +139,7 @@ module _ (w : Welder) (vs : List Float) (ws : List ℕ) (L : Linked w vs ws) (p 
   pub point-full : w .room ≡ true → Sought vs (w .base) (w .count) p Missing → w .places ≤ w .count → PointRuns p w vs ws (record { number = 0; st = shut w }) vs ws
   point-full e F k =
       record {
-        linked = record { chained = L .chained; places = L .places };
+        linked = record { chained = L .chained; places = L .places; rows = L .rows };
         faces = refl;
         finite = refl;
         sticky = λ q. e;
@@ -151,46 +155,57 @@ module _ (w : Welder) (vs : List Float) (ws : List ℕ) (L : Linked w vs ws) (p 
         stays = λ q. absurd (not-both false q refl);
       }
 
-  abbrev next : Welder
-  next = record { base = w .base; count = w .count + 1; places = w .places; faces = w .faces; finite = w .finite; room = w .room }
-
   abbrev vs₁ : List Float
   vs₁ = placed vs (w .count) p
 
-  held-more : (M : Mesh) (ts ws′ : List ℕ) → w .count < w .places → Holds M (here ts) → Holds (more-vertex M p) (held next vs₁ ts ws′)
-  held-more M ts ws′ k H =
-      record {
-        vertices =
-            flatV-append (M .vertices) (p ∷ [])
-            ∙ ap (λ (l : List Float). l ++ (p .x ∷ p .y ∷ p .z ∷ [])) (H .vertices)
-            ∙ sym (ap (λ (n : ℕ). take n vs₁) (three-more (w .count)) ∙ take-three vs (3 * w .count) (p .x) (p .y) (p .z) (omega (arith, L .chained .room)));
-        count = length-append (M .vertices) (p ∷ []) ∙ ap (λ (n : ℕ). n + 1) (H .count);
-        triangles = H .triangles;
-        faces = H .faces;
-      }
+  -- the state after p became a vertex
+  module _ (f : Foreseen) (W : f .fresh ≡ true → InRow (w .base) (w .count) vs p (rowSeen f)) where
+    held-more : (M : Mesh) (ts ws′ : List ℕ) → w .count < w .places → Holds M (here ts) → Holds (more-vertex M p) (held (more w f) vs₁ ts ws′)
+    held-more M ts ws′ k H =
+        record {
+          vertices =
+              flatV-append (M .vertices) (p ∷ [])
+              ∙ ap (λ (l : List Float). l ++ (p .x ∷ p .y ∷ p .z ∷ [])) (H .vertices)
+              ∙ sym (ap (λ (n : ℕ). take n vs₁) (three-more (w .count)) ∙ take-three vs (3 * w .count) (p .x) (p .y) (p .z) (omega (arith, L .chained .room)));
+          count = length-append (M .vertices) (p ∷ []) ∙ ap (λ (n : ℕ). n + 1) (H .count);
+          triangles = H .triangles;
+          faces = H .faces;
+        }
 
-  pub point-new : Clean p → (b : ℕ) → b ≡ bucketOf (w .places) p → b < w .places → w .room ≡ true → Sought vs (w .base) (w .count) p Missing → w .count < w .places
-      → PointRuns p w vs ws (record { number = w .count; st = next }) vs₁ (linkedIn ws (w .places) (w .count) b)
-  point-new cp b eb bl e F k =
-      record {
-        linked = record {
-          chained = chain-more vs ws (w .places) (w .base) (w .count) (L .chained) p cp k b eb bl F;
-          places = L .places ∙ places-long vs vs₁ (sym (simp length-set));
-        };
-        faces = refl;
-        finite = refl;
-        sticky = λ q. q;
-        small = omega (arith, L .places, places-limit vs);
-        rep = λ D S ts R. record {
-          base = R .base;
-          holds = λ q. subst (λ (M : Mesh). Holds M (held next vs₁ ts (linkedIn ws (w .places) (w .count) b))) (sym (grown D S p (unseen D S ts e F R)))
-              (held-more (append D S) ts (linkedIn ws (w .places) (w .count) b) k (R .holds q));
-          over = λ q. absurd (not-both (w .room) e q);
-        };
-        number = λ D S ts R q. omega (arith, unseen D S ts e F R, long D S ts e R);
-        here = λ q. first-new vs (w .base) (w .count) p (L .chained .based) (omega (arith, L .chained .room)) (clean-self p cp) F;
-        stays = λ q x n G. first-stays vs (w .base) (w .count) p x n G;
-      }
+    rows-more : w .count < w .places → f .fresh ≡ true → (m : ℕ) → w .base ≤ m → m < w .count + 1 → within (rowSeen f) (vertexAt vs₁ (w .count + 1 - 1)) (vertexAt vs₁ m) ≡ true
+    rows-more k q m a l =
+        ap (λ (v : Vec3). within (rowSeen f) v (vertexAt vs₁ m)) (ap (vertexAt vs₁) (add-sub-cancel (w .count) 1) ∙ last)
+        ∙ ⊎-elim
+        (λ e. ap (λ (n : ℕ). within (rowSeen f) p (vertexAt vs₁ n)) e ∙ ap (within (rowSeen f) p) last ∙ W q .has)
+        (λ j. ap (within (rowSeen f) p) (placed-before vs (w .count) p m j) ∙ W q .keeps m a j)
+        (eq-or-lt-of-le {n = m} {m = w .count} (omega arith))
+      where
+        last : vertexAt vs₁ (w .count) ≡ p
+        last = placed-at vs (w .count) p (omega (arith, L .chained .room))
+
+    pub point-new : Clean p → (b : ℕ) → b ≡ bucketOf (w .places) p → b < w .places → w .room ≡ true → Sought vs (w .base) (w .count) p Missing → w .count < w .places
+        → PointRuns p w vs ws (record { number = w .count; st = more w f }) vs₁ (linkedIn ws (w .places) (w .count) b)
+    point-new cp b eb bl e F k =
+        record {
+          linked = record {
+            chained = chain-more vs ws (w .places) (w .base) (w .count) (L .chained) p cp k b eb bl F;
+            places = L .places ∙ places-long vs vs₁ (sym (simp length-set));
+            rows = rows-more k;
+          };
+          faces = refl;
+          finite = refl;
+          sticky = λ q. q;
+          small = omega (arith, L .places, places-limit vs);
+          rep = λ D S ts R. record {
+            base = R .base;
+            holds = λ q. subst (λ (M : Mesh). Holds M (held (more w f) vs₁ ts (linkedIn ws (w .places) (w .count) b))) (sym (grown D S p (unseen D S ts e F R)))
+                (held-more (append D S) ts (linkedIn ws (w .places) (w .count) b) k (R .holds q));
+            over = λ q. absurd (not-both (w .room) e q);
+          };
+          number = λ D S ts R q. omega (arith, unseen D S ts e F R, long D S ts e R);
+          here = λ q. first-new vs (w .base) (w .count) p (L .chained .based) (omega (arith, L .chained .room)) (clean-self p cp) F;
+          stays = λ q x n G. first-stays vs (w .base) (w .count) p x n G;
+        }
 
 -- a point that was seen, or any after there was no room
 pub point-known : (w : Welder) (vs : List Float) (ws : List ℕ) (p : Vec3) (m : ℕ) → Linked w vs ws → m < 2 ^ 32 → (w .room ≡ true → FirstAt vs (w .base) (w .count) p m)

@@ -15,8 +15,8 @@ use Rattle.balance.specs.Buffer.{flat-append}
 use Rattle.trimesh.specs.Mesh.{Mesh, finiteV, plusZeroV, distinct, append, weldTriangle, weldSoup, everyFinite}
 use Rattle.weld.specs.declared.Welder.{Welder}
 use Rattle.weld.specs.declared.Welded.{Welded}
-use Rattle.weld.specs.Rep.{Held, held, placesOf, Linked, Ready, Holds, Over, Rep, Runs}
-use Rattle.weld.specs.Steps.{unfinite, shut, withTriangle, weldPoints, PointRuns, TriangleRuns, PointsRun}
+use Rattle.weld.specs.Rep.{Held, held, placesOf, rowOf, Linked, Ready, Holds, Over, Rep, Runs}
+use Rattle.weld.specs.Steps.{unfinite, shut, moreFaces, withTriangle, weldPoints, PointRuns, TriangleRuns, PointsRun}
 use Rattle.weld.proofs.Places.{take-three, places-fit, places-long}
 use Rattle.chain.proofs.Chains.{not-both}
 use Rattle.weld.proofs.Point.{rep-shut, three-more}
@@ -79,6 +79,8 @@ module _ (a b c : ℕ) (w : Welder) (ts : List ℕ) (fits : w .faces ≤ placesO
         base = refl;
         count = refl;
         places = refl;
+        ordered = refl;
+        row = refl;
         finite = refl;
         faces = fits;
         sticky = λ q. q;
@@ -96,6 +98,8 @@ module _ (a b c : ℕ) (w : Welder) (ts : List ℕ) (fits : w .faces ≤ placesO
         base = refl;
         count = refl;
         places = refl;
+        ordered = refl;
+        row = refl;
         finite = refl;
         faces = fits;
         sticky = λ q. q;
@@ -115,6 +119,8 @@ module _ (a b c : ℕ) (w : Welder) (ts : List ℕ) (fits : w .faces ≤ placesO
           base = refl;
           count = refl;
           places = refl;
+          ordered = refl;
+          row = refl;
           finite = refl;
           faces = fits;
           sticky = λ q. e;
@@ -126,13 +132,10 @@ module _ (a b c : ℕ) (w : Welder) (ts : List ℕ) (fits : w .faces ≤ placesO
           };
         }
 
-    abbrev next : Welder
-    next = record { base = w .base; count = w .count; places = w .places; faces = w .faces + 1; finite = w .finite; room = w .room }
-
     abbrev ts₁ : List ℕ
     ts₁ = set (set (set ts (3 * w .faces) a) (3 * w .faces + 1) b) (3 * w .faces + 2) c
 
-    held-more : (M : Mesh) (vs : List Float) (ws : List ℕ) → w .faces < placesOf ts → Holds M (held w vs ts ws) → Holds (more-triangle M (a, b, c)) (held next vs ts₁ ws)
+    held-more : (M : Mesh) (vs : List Float) (ws : List ℕ) → w .faces < placesOf ts → Holds M (held w vs ts ws) → Holds (more-triangle M (a, b, c)) (held (moreFaces w) vs ts₁ ws)
     held-more M vs ws l H =
         record {
           vertices = H .vertices;
@@ -144,25 +147,28 @@ module _ (a b c : ℕ) (w : Welder) (ts : List ℕ) (fits : w .faces ≤ placesO
           faces = length-append (M .triangles) ((a, b, c) ∷ []) ∙ ap (λ (n : ℕ). n + 1) (H .faces);
         }
 
-    pub triangle-new : w .room ≡ true → w .faces < placesOf ts → TriangleRuns a b c w ts next ts₁
+    pub triangle-new : w .room ≡ true → w .faces < placesOf ts → TriangleRuns a b c w ts (moreFaces w) ts₁
     triangle-new e l =
         record {
           base = refl;
           count = refl;
           places = refl;
+          ordered = refl;
+          row = refl;
           finite = refl;
           faces = omega (arith, places-long ts ts₁ (sym (simp length-set)));
           sticky = λ q. q;
           rep = λ D S vs ws t n R. record {
             base = R .base;
-            holds = λ f. subst (λ (M : Mesh). Holds M (held next vs ts₁ ws)) (sym (grows D S t (n e))) (held-more (append D S) vs ws l (R .holds f));
+            holds = λ f. subst (λ (M : Mesh). Holds M (held (moreFaces w) vs ts₁ ws)) (sym (grows D S t (n e))) (held-more (append D S) vs ws l (R .holds f));
             over = λ f. absurd (not-both (w .room) e f);
           };
         }
 
 -- ---- a triangle of points
-pub linked-moved : {vs : List Float} {ws : List ℕ} (w r : Welder) → r .base ≡ w .base → r .count ≡ w .count → r .places ≡ w .places → Linked w vs ws → Linked r vs ws
-linked-moved w r b c p L = record { chained = rw (b, c, p) (L .chained); places = p ∙ L .places }
+pub linked-moved : {vs : List Float} {ws : List ℕ} (w r : Welder) → r .base ≡ w .base → r .count ≡ w .count → r .places ≡ w .places → r .ordered ≡ w .ordered → rowOf r ≡ rowOf w
+    → Linked w vs ws → Linked r vs ws
+linked-moved w r b c p o k L = record { chained = rw (b, c, p) (L .chained); places = p ∙ L .places; rows = rw (b, c, o, k) (L .rows) }
 
 pub points-run : (a b c : Vec3) (st : Welder) (vs : List Float) (ts ws : List ℕ) (u : Welded) (vs₁ : List Float) (ws₁ : List ℕ) (v : Welded) (vs₂ : List Float)
     (ws₂ : List ℕ) (w : Welded) (vs₃ : List Float) (ws₃ : List ℕ) (r : Welder) (ts′ : List ℕ)
@@ -172,7 +178,7 @@ pub points-run : (a b c : Vec3) (st : Welder) (vs : List Float) (ts ws : List �
 unfolding weldPoints
 points-run a b c st vs ts ws u vs₁ ws₁ v vs₂ ws₂ w vs₃ ws₃ r ts′ P₁ P₂ P₃ R lv lt lw =
     record {
-      ready = record { linked = linked-moved (w .st) r (R .base) (R .count) (R .places) (P₃ .linked); faces = R .faces };
+      ready = record { linked = linked-moved (w .st) r (R .base) (R .count) (R .places) (R .ordered) (R .row) (P₃ .linked); faces = R .faces };
       vlong = lv;
       tlong = lt;
       wlong = lw;
@@ -204,7 +210,7 @@ pub triangle-stops : (w : Welder) (vs : List Float) (ts ws : List ℕ) (a b c : 
 unfolding everyFinite
 triangle-stops w vs ts ws a b c R n =
     record {
-      ready = record { linked = record { chained = R .linked .chained; places = R .linked .places }; faces = R .faces };
+      ready = record { linked = record { chained = R .linked .chained; places = R .linked .places; rows = R .linked .rows }; faces = R .faces };
       vlong = refl;
       tlong = refl;
       wlong = refl;

@@ -3,7 +3,7 @@ use mathlib.Core.Path.{_≡_}
 use mathlib.Core.Bool.{true, false, _&&_}
 use mathlib.Core.List.{List}
 use mathlib.Core.Logic.{_⊎_}
-use Prim.Native.Nat.{ℕ, _*_, _/_, _≤_, _<_, min}
+use Prim.Native.Nat.{ℕ, _-_, _*_, _/_, _≤_, _<_, min}
 use lib.ListN.{length, take}
 use lib.Ieee.{Float}
 use Rattle.math.specs.declared.Vec3.{Vec3}
@@ -12,7 +12,10 @@ use Rattle.balance.specs.Buffer.{flat}
 use Rattle.trimesh.specs.Mesh.{Mesh, noMesh, append, weldSoup, everyFinite}
 use Rattle.trimesh.specs.Slices.{flatV}
 use Rattle.weld.specs.declared.Welder.{Welder}
+use Rattle.chain.specs.Points.{Clean, vertexAt}
 use Rattle.chain.specs.Hash.{Chained}
+use Rattle.rows.specs.declared.Row.{Row}
+use Rattle.rows.specs.Rows.{within}
 
 -- document 01, refusal 7: no more than this many vertices, nor triangles
 abbrev pub limit : ℕ
@@ -32,10 +35,27 @@ pub record Held : Type 0 where
 abbrev pub held : Welder → List Float → List ℕ → List ℕ → Held
 held w vs ts ws = record { st = w; vertices = vs; triangles = ts; work = ws }
 
--- the chains stand, and `places` counts the places for vertices
+-- the row of the last vertex, where the vertices of this part came row by row
+abbrev pub rowOf : Welder → Row
+rowOf w = record { near = w .near; rising = w .rising }
+
+-- with p after them as the last one, the vertices from base below count and p itself came row by row, the last row being r
+pub record InRow (base count : ℕ) (vs : List Float) (p : Vec3) (r : Row) : Type 0 where
+  pub has : within r p p ≡ true
+  pub keeps : (m : ℕ) → base ≤ m → m < count → within r p (vertexAt vs m) ≡ true
+
+-- where `ordered` says so, the vertices of this part came row by row
+pub record InRows (w : Welder) (vs : List Float) : Type 0 where
+  pub room : 3 * w .count ≤ length vs
+  pub based : w .base ≤ w .count
+  pub clean : (m : ℕ) → m < w .count → Clean (vertexAt vs m)
+  pub rows : w .ordered ≡ true → (m : ℕ) → w .base ≤ m → m < w .count → within (rowOf w) (vertexAt vs (w .count - 1)) (vertexAt vs m) ≡ true
+
+-- the chains stand, `places` counts the places for vertices, and the vertices of this part came row by row where `ordered` says so
 pub record Linked (w : Welder) (vs : List Float) (ws : List ℕ) : Type 0 where
   pub chained : Chained vs ws (w .places) (w .base) (w .count)
   pub places : w .places ≡ placesOf vs
+  pub rows : w .ordered ≡ true → (m : ℕ) → w .base ≤ m → m < w .count → within (rowOf w) (vertexAt vs (w .count - 1)) (vertexAt vs m) ≡ true
 
 -- what the code needs to be safe: nothing here speaks of the mesh
 pub record Ready (h : Held) : Type 0 where

@@ -10,16 +10,39 @@ use Rattle.balance.specs.Soup.{Tri}
 use Rattle.trimesh.specs.Mesh.{Mesh, firstSight, withPoint, distinct}
 use Rattle.weld.specs.declared.Welder.{Welder}
 use Rattle.weld.specs.declared.Welded.{Welded}
-use Rattle.chain.specs.Hash.{FirstAt}
-use Rattle.weld.specs.Rep.{Held, held, placesOf, Linked, Ready, Rep}
+use Rattle.weld.specs.declared.Foreseen.{Foreseen}
+use Rattle.chain.specs.declared.Found.the-variants.{Missing}
+use Rattle.chain.specs.Hash.{FirstAt, Sought}
+use Rattle.rows.specs.declared.Row.{Row}
+use Rattle.weld.specs.Rep.{Held, held, placesOf, rowOf, InRow, Linked, Ready, Rep}
 
 -- the state after a point that is not finite
 abbrev pub unfinite : Welder → Welder
-unfinite w = record { base = w .base; count = w .count; places = w .places; faces = w .faces; finite = false; room = w .room }
+unfinite w = record { base = w .base; count = w .count; places = w .places; faces = w .faces; near = w .near; finite = false; room = w .room; ordered = w .ordered; rising = w .rising }
 
 -- the state after the mesh did not fit
 abbrev pub shut : Welder → Welder
-shut w = record { base = w .base; count = w .count; places = w .places; faces = w .faces; finite = w .finite; room = false }
+shut w = record { base = w .base; count = w .count; places = w .places; faces = w .faces; near = w .near; finite = w .finite; room = false; ordered = w .ordered; rising = w .rising }
+
+-- the row that was foreseen, and a new point in a row
+abbrev pub rowSeen : Foreseen → Row
+rowSeen f = record { near = f .near; rising = f .rising }
+
+abbrev pub freshIn : Row → Foreseen
+freshIn r = record { near = r .near; fresh = true; rising = r .rising }
+
+-- what the rows show of p is so: it equals no vertex of this part, and the row after it is the one foreseen
+pub record Foresees (w : Welder) (vs : List Float) (p : Vec3) (f : Foreseen) : Type 0 where
+  pub missing : f .fresh ≡ true → Sought vs (w .base) (w .count) p Missing
+  pub row : f .fresh ≡ true → InRow (w .base) (w .count) vs p (rowSeen f)
+
+-- the state after a new vertex of which f was foreseen
+abbrev pub more : Welder → Foreseen → Welder
+more w f = record { base = w .base; count = w .count + 1; places = w .places; faces = w .faces; near = f .near; finite = w .finite; room = w .room; ordered = f .fresh; rising = f .rising }
+
+-- the state after a new triangle
+abbrev pub moreFaces : Welder → Welder
+moreFaces w = record { base = w .base; count = w .count; places = w .places; faces = w .faces + 1; near = w .near; finite = w .finite; room = w .room; ordered = w .ordered; rising = w .rising }
 
 -- the mesh after p was looked up
 abbrev pub withVertex : Mesh → Vec3 → Mesh
@@ -54,6 +77,8 @@ pub record TriangleRuns (a b c : ℕ) (w : Welder) (ts : List ℕ) (r : Welder) 
   pub base : r .base ≡ w .base
   pub count : r .count ≡ w .count
   pub places : r .places ≡ w .places
+  pub ordered : r .ordered ≡ w .ordered
+  pub row : rowOf r ≡ rowOf w
   pub finite : r .finite ≡ w .finite
   pub faces : r .faces ≤ placesOf ts′
   pub sticky : r .room ≡ true → w .room ≡ true

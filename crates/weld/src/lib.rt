@@ -6,6 +6,7 @@ ghost use Prim.Native.Nat.{ℕ, _*_, _/_, _≤_};
 ghost use lib.ListN.{length, getD};
 ghost use Rattle.weld.specs.Rep.{held, Ready, Runs, Begun, Parted};
 
+mod foresight;
 mod points;
 mod states;
 mod steps;
@@ -19,20 +20,31 @@ pub use steps::look_up;
 pub use steps::weld_point;
 
 // The state of the welder. `base` vertices belong to the parts before this one, `count` vertices and `faces` triangles are
-// written, and `places` vertices fit. `finite` is false once a point was not finite, `room` once the mesh did not fit.
+// written, and `places` vertices fit. `finite` is false once a point was not finite, `room` once the mesh did not fit. While
+// the vertices of this part come row by row, `ordered` is true, and `near` and `rising` are the row of the last one, see `rows`.
 pub struct Welder {
     pub base: usize,
     pub count: usize,
     pub places: usize,
     pub faces: usize,
+    pub near: f64,
     pub finite: bool,
     pub room: bool,
+    pub ordered: bool,
+    pub rising: bool,
 }
 
 // The number of a point, and the state after it.
 pub struct Welded {
     pub number: usize,
     pub st: Welder,
+}
+
+// What is seen of a point before a search: whether it is new, and the row after it.
+pub struct Foreseen {
+    pub near: f64,
+    pub fresh: bool,
+    pub rising: bool,
 }
 
 // Nothing is welded yet. The work slice is all zero.
@@ -45,8 +57,11 @@ pub fn begin(vertices: &[f64], work: &[u32]) -> Welder
         count: 0,
         places: states::whole_places(vertices.len()),
         faces: 0,
+        near: 0.0,
         finite: true,
         room: true,
+        ordered: false,
+        rising: false,
     }
 }
 
@@ -59,8 +74,11 @@ pub fn new_part(w: Welder) -> Welder
         count: w.count,
         places: w.places,
         faces: w.faces,
+        near: 0.0,
         finite: w.finite,
         room: w.room,
+        ordered: false,
+        rising: false,
     }
 }
 

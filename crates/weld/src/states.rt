@@ -1,8 +1,9 @@
 // The whole places of a slice, and the states in which the welder stops.
 ghost use mathlib.Core.Path.{_≡_};
-ghost use Prim.Native.Nat.{_/_, min};
+ghost use Prim.Native.Nat.{_/_, _<_, _^_, min};
 ghost use Rattle.weld.specs.Rep.{limit};
-ghost use Rattle.weld.specs.Steps.{unfinite, shut};
+ghost use Rattle.weld.specs.Steps.{unfinite, shut, more, moreFaces};
+use crate::Foreseen;
 use crate::Welder;
 
 // The whole places of a slice of this length, three entries each, at most 4,294,967,295.
@@ -26,8 +27,11 @@ pub fn stopped(w: Welder) -> Welder
         count: w.count,
         places: w.places,
         faces: w.faces,
+        near: w.near,
         finite: false,
         room: w.room,
+        ordered: w.ordered,
+        rising: w.rising,
     }
 }
 
@@ -40,7 +44,46 @@ pub fn full(w: Welder) -> Welder
         count: w.count,
         places: w.places,
         faces: w.faces,
+        near: w.near,
         finite: w.finite,
         room: false,
+        ordered: w.ordered,
+        rising: w.rising,
+    }
+}
+
+// The state after a new vertex.
+pub fn grown(w: Welder, f: Foreseen) -> Welder
+    requires { ⌜ w .count < 2 ^ 32 ⌝ }
+    ensures { λ r. ⌜ r ≡ more w f ⌝ }
+{
+    Welder {
+        base: w.base,
+        count: w.count + 1,
+        places: w.places,
+        faces: w.faces,
+        near: f.near,
+        finite: w.finite,
+        room: w.room,
+        ordered: f.fresh,
+        rising: f.rising,
+    }
+}
+
+// The state after a new triangle.
+pub fn with_face(w: Welder) -> Welder
+    requires { ⌜ w .faces < 2 ^ 32 ⌝ }
+    ensures { λ r. ⌜ r ≡ moreFaces w ⌝ }
+{
+    Welder {
+        base: w.base,
+        count: w.count,
+        places: w.places,
+        faces: w.faces + 1,
+        near: w.near,
+        finite: w.finite,
+        room: w.room,
+        ordered: w.ordered,
+        rising: w.rising,
     }
 }

@@ -5,6 +5,7 @@ ghost use Rattle.weld.specs.Rep.{held, placesOf, Linked, Ready};
 ghost use Rattle.weld.specs.Steps.{PointRuns, TriangleRuns, PointsRun};
 use crate::Welded;
 use crate::Welder;
+use crate::foresight;
 use crate::states;
 use math::Vec3;
 
@@ -62,7 +63,6 @@ pub fn look_up(vertices: &mut [f64], work: &mut [u32], w: Welder, p: Vec3) -> We
     requires { ⌜ Linked w (now vertices) (now work) × Clean p ⌝ }
     ensures { λ r. ⌜ PointRuns p w (now (vertices .entry)) (now (work .entry)) r (now (vertices .exit)) (now (work .exit)) ⌝ }
 {
-    let base = w.base;
     let count = w.count;
     let places = w.places;
     let room = w.room;
@@ -75,21 +75,15 @@ pub fn look_up(vertices: &mut [f64], work: &mut [u32], w: Welder, p: Vec3) -> We
             st: states::full(w),
         };
     }
-    let number = chain::place_of(vertices, work, places, base, count, p);
+    let f = foresight::foresee(vertices, w, p);
+    let number = chain::number_of(vertices, work, places, w.base, count, f.fresh, p);
     if number < count {
         return Welded { number, st: w };
     }
     if number == count {
         return Welded {
             number,
-            st: Welder {
-                base,
-                count: count + 1,
-                places,
-                faces: w.faces,
-                finite: w.finite,
-                room,
-            },
+            st: states::grown(w, f),
         };
     }
     Welded {
@@ -124,12 +118,5 @@ pub fn add_triangle(triangles: &mut [u32], w: Welder, a: usize, b: usize, c: usi
     triangles[at] = a as u32;
     triangles[at + 1] = b as u32;
     triangles[at + 2] = c as u32;
-    Welder {
-        base: w.base,
-        count: w.count,
-        places: w.places,
-        faces: faces + 1,
-        finite: w.finite,
-        room,
-    }
+    states::with_face(w)
 }

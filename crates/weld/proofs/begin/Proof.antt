@@ -8,7 +8,7 @@ whole-places-requires : tie.Need-whole-places-requires
 whole-places-requires c κs = search needs
 
 returns : tie.Need-returns
-returns c = begun _ _ _ (c .whole-places .ensures) (c .before .before .before .pre .1) (c .before .before .before .pre .0)
+returns c = begun _ _ _ (c .whole-places .ensures) (c .before .before .before .pre .1) (c .before .before .before .pre .0) (record { near = _; rising = _ }) _
 
 pub begin-spec : {M : Type 1} → statement M
 begin-spec = tie.close (tie.spec whole-places-requires returns)

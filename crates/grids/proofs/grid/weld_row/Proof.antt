@@ -1,6 +1,6 @@
 -- `grids::grid::weld_row` meets its contract. Assumes nothing.
 use borrow.Author.Needs.{needs}
-use mathlib.Core.Path.{_≡_, refl, ap, _∙_}
+use mathlib.Core.Path.{_≡_, refl, ap}
 use Prim.Native.Nat.{ℕ, _+_, _-_, _*_, _≤_, zero-le}
 use native.Mathlib.Omega.{arith}
 use denote.Ref.{now}
@@ -17,7 +17,7 @@ use Rattle.grids.proofs.grid.weld_row.Statement.{statement}
 use Rattle.grids.proofs.grid.weld_row.Tie as tie
 
 abbrev Inv-loop : tie.InvT-loop
-Inv-loop vertices₀ triangles₀ work₀ s corners rows cols numbers₀ i nv flip first st₀ a₀ b₀ na₀ nb₀ last₀ j₀ vertices triangles work numbers st a b na nb last j =
+Inv-loop vertices₀ triangles₀ work₀ s corners rows cols numbers₀ i nv flip st₀ a₀ b₀ na₀ nb₀ last₀ j₀ vertices triangles work numbers st a b na nb last j =
     (j ≤ nv)
     × Runs (row j flip (surfaceAt corners s) i) (held st₀ vertices₀ triangles₀ work₀) (held st vertices triangles work)
     × (a ≡ surfaceAt corners s i j)
@@ -25,88 +25,76 @@ Inv-loop vertices₀ triangles₀ work₀ s corners rows cols numbers₀ i nv fl
     × (length numbers ≡ length numbers₀)
 
 abbrev μ-loop : tie.MeasureT-loop
-μ-loop vertices₀ triangles₀ work₀ s corners rows cols numbers₀ i nv flip first st₀ a₀ b₀ na₀ nb₀ last₀ j₀ vertices triangles work numbers st a b na nb last j = nv - j
+μ-loop vertices₀ triangles₀ work₀ s corners rows cols numbers₀ i nv flip st₀ a₀ b₀ na₀ nb₀ last₀ j₀ vertices triangles work numbers st a b na nb last j = nv - j
 
 fits-index : (n : ℕ) → n ≤ 1024 → Fits w64 (n * 8)
 fits-index n h = omega arith
 
-add-look-ahead : tie.Need-add-look-ahead Inv-loop μ-loop
-add-look-ahead c = omega (arith, c .before .before .before .before .before .before .before .before .before .before .pre .1 .0)
-
-look-ahead-requires : tie.Need-look-ahead-requires Inv-loop μ-loop
-look-ahead-requires c κs = let x = c .before .before .before .before .before .before .before .before .before .before in (x .pre .0 .linked, (x .pre .1 .1, x .pre .1 .3, x .pre .1 .4))
-
 surface-point-requires : tie.Need-surface-point-requires Inv-loop μ-loop
 surface-point-requires c κs =
-    let x = c .before .before .before .before .before .before .before .before .before .before .before .before .before in (
+    let x = c .before .before .before .before .before .before .before in (
       within-less (now (x .args .corners)) (x .args .s) (x .args .i + 1) (x .args .nv) (x .args .i) (0) (omega arith) (omega arith) (x .pre .1 .3),
       tabled-less (x .args .s) (now (x .args .rows)) (now (x .args .cols)) (x .args .i + 1) (x .args .nv) (x .args .i) (0) (omega arith) (omega arith) (x .pre .1 .4),
     )
 
 add-surface-point : tie.Need-add-surface-point Inv-loop μ-loop
-add-surface-point c = omega (arith, c .before .before .before .before .before .before .before .before .before .before .before .before .before .before .pre .1 .0)
+add-surface-point c = omega (arith, c .before .before .before .before .before .before .before .before .pre .1 .0)
 
 surface-point-requires-2 : tie.Need-surface-point-requires-2 Inv-loop μ-loop
 surface-point-requires-2 c κs =
-    let x = c .before .before .before .before .before .before .before .before .before .before .before .before .before .before in (
+    let x = c .before .before .before .before .before .before .before .before in (
       within-less (now (x .args .corners)) (x .args .s) (x .args .i + 1) (x .args .nv) (x .args .i + 1) (0) (omega arith) (omega arith) (x .pre .1 .3),
       tabled-less (x .args .s) (now (x .args .rows)) (now (x .args .cols)) (x .args .i + 1) (x .args .nv) (x .args .i + 1) (0) (omega arith) (omega arith) (x .pre .1 .4),
     )
 
 slice-read-na : tie.Need-slice-read-na Inv-loop μ-loop
-slice-read-na c = omega (arith, c .before .before .before .before .before .look-ahead .kept .1 .1 .1 .1 .1 .1 .1 .0, c .before .before .before .before .before .before .before .before .before .before .before .before .before .before .before .before .pre .1 .2)
+slice-read-na c = omega (arith, c .before .before .before .before .before .before .before .before .before .before .pre .1 .2)
 
 same-or-requires : tie.Need-same-or-requires Inv-loop μ-loop
 same-or-requires c κs = search needs
 
 loop-holds : tie.Need-loop-holds Inv-loop μ-loop
 loop-holds c =
-    let x = c .before .before .before .before .before .before .before .before .before .before .before .before .before .before .before .before .before in
+    let x = c .before .before .before .before .before .before .before .before .before .before .before in
     (zero-le, row-none (x .args .flip) (surfaceAt (now (x .args .corners)) (x .args .s)) (x .args .i) _ (x .pre .0), c .before .before .before .surface-point .ensures, c .before .before .surface-point2 .ensures, refl)
 
 add-surface-point-2 : tie.Need-add-surface-point-2 Inv-loop μ-loop
-add-surface-point-2 c = omega (arith, c .loop-test .taken, c .before .before .before .before .before .before .before .before .before .before .before .before .before .before .before .before .before .before .before .pre .1 .1)
+add-surface-point-2 c = omega (arith, c .loop-test .taken, c .before .before .before .before .before .before .before .before .before .before .before .before .before .pre .1 .1)
 
 surface-point-requires-3 : tie.Need-surface-point-requires-3 Inv-loop μ-loop
 surface-point-requires-3 c κs =
-    let x = c .before .before .before .before .before .before .before .before .before .before .before .before .before .before .before .before .before .before .before in (
+    let x = c .before .before .before .before .before .before .before .before .before .before .before .before .before in (
       within-less (now (x .args .corners)) (x .args .s) (x .args .i + 1) (x .args .nv) (x .args .i) (c .before .loop .j + 1) (omega arith) (omega (arith, c .loop-test .taken)) (x .pre .1 .3),
       tabled-less (x .args .s) (now (x .args .rows)) (now (x .args .cols)) (x .args .i + 1) (x .args .nv) (x .args .i) (c .before .loop .j + 1) (omega arith) (omega (arith, c .loop-test .taken)) (x .pre .1 .4),
     )
 
 add-surface-point-3 : tie.Need-add-surface-point-3 Inv-loop μ-loop
-add-surface-point-3 c = omega (arith, c .before .before .before .before .before .before .before .before .before .before .before .before .before .before .before .before .before .before .before .before .pre .1 .0)
+add-surface-point-3 c = omega (arith, c .before .before .before .before .before .before .before .before .before .before .before .before .before .before .pre .1 .0)
 
 add-surface-point-4 : tie.Need-add-surface-point-4 Inv-loop μ-loop
-add-surface-point-4 c = omega (arith, c .before .loop-test .taken, c .before .before .before .before .before .before .before .before .before .before .before .before .before .before .before .before .before .before .before .before .pre .1 .1)
+add-surface-point-4 c = omega (arith, c .before .loop-test .taken, c .before .before .before .before .before .before .before .before .before .before .before .before .before .before .pre .1 .1)
 
 surface-point-requires-4 : tie.Need-surface-point-requires-4 Inv-loop μ-loop
 surface-point-requires-4 c κs =
-    let x = c .before .before .before .before .before .before .before .before .before .before .before .before .before .before .before .before .before .before .before .before in (
+    let x = c .before .before .before .before .before .before .before .before .before .before .before .before .before .before in (
       within-less (now (x .args .corners)) (x .args .s) (x .args .i + 1) (x .args .nv) (x .args .i + 1) (c .before .before .loop .j + 1) (omega arith) (omega (arith, c .before .loop-test .taken)) (x .pre .1 .3),
       tabled-less (x .args .s) (now (x .args .rows)) (now (x .args .cols)) (x .args .i + 1) (x .args .nv) (x .args .i + 1) (c .before .before .loop .j + 1) (omega arith) (omega (arith, c .before .loop-test .taken)) (x .pre .1 .4),
     )
 
 add-same-or : tie.Need-add-same-or Inv-loop μ-loop
-add-same-or c = omega (arith, c .before .before .loop-test .taken, c .before .before .before .before .before .before .before .before .before .before .before .before .before .before .before .before .before .before .before .before .before .pre .1 .1)
+add-same-or c = omega (arith, c .before .before .loop-test .taken, c .before .before .before .before .before .before .before .before .before .before .before .before .before .before .before .pre .1 .1)
 
 mul-same-or : tie.Need-mul-same-or Inv-loop μ-loop
-mul-same-or c = fits-index _ (omega (arith, c .before .before .loop-test .taken, c .before .before .before .before .before .before .before .before .before .before .before .before .before .before .before .before .before .before .before .before .before .pre .1 .1))
+mul-same-or c = fits-index _ (omega (arith, c .before .before .loop-test .taken, c .before .before .before .before .before .before .before .before .before .before .before .before .before .before .before .pre .1 .1))
 
 slice-read-same-or : tie.Need-slice-read-same-or Inv-loop μ-loop
-slice-read-same-or c = omega (arith, c .before .before .before .loop-test .taken, c .before .before .before .before .loop .inv .4, c .before .before .before .before .before .before .before .before .before .before .before .look-ahead .kept .1 .1 .1 .1 .1 .1 .1 .0, c .before .before .before .before .before .before .before .before .before .before .before .before .before .before .before .before .before .before .before .before .before .before .pre .1 .2)
+slice-read-same-or c = omega (arith, c .before .before .before .loop-test .taken, c .before .before .before .before .loop .inv .4, c .before .before .before .before .before .before .before .before .before .before .before .before .before .before .before .before .pre .1 .2)
 
 same-or-requires-2 : tie.Need-same-or-requires-2 Inv-loop μ-loop
 same-or-requires-2 c κs = search needs
 
 onward-requires : tie.Need-onward-requires Inv-loop μ-loop
 onward-requires c κs = search needs
-
-add-ahead-or : tie.Need-add-ahead-or Inv-loop μ-loop
-add-ahead-or c = omega (arith, c .before .before .before .before .before .before .loop-test .taken, c .before .before .before .before .before .before .before .before .before .before .before .before .before .before .before .before .before .before .before .before .before .before .before .before .before .pre .1 .1)
-
-ahead-or-requires : tie.Need-ahead-or-requires Inv-loop μ-loop
-ahead-or-requires c κs = (c .before .before .before .before .before .before .before .before .before .before .before .before .before .before .look-ahead .ensures, omega (arith, c .before .before .before .before .before .before .loop-test .taken, c .before .before .before .before .before .before .before .before .before .before .before .before .before .before .before .before .before .before .before .before .before .before .before .before .before .pre .1 .1))
 
 same-or-requires-3 : tie.Need-same-or-requires-3 Inv-loop μ-loop
 same-or-requires-3 c κs = search needs
@@ -115,27 +103,27 @@ same-or-requires-4 : tie.Need-same-or-requires-4 Inv-loop μ-loop
 same-or-requires-4 c κs = search needs
 
 weld-cell-requires : tie.Need-weld-cell-requires Inv-loop μ-loop
-weld-cell-requires c κs = c .before .before .before .before .before .before .before .before .before .before .before .before .before .loop .inv .1 .ready
+weld-cell-requires c κs = c .before .before .before .before .before .before .before .before .before .before .before .loop .inv .1 .ready
 
 mul-numbers : tie.Need-mul-numbers Inv-loop μ-loop
-mul-numbers c = fits-index _ (omega (arith, c .before .before .before .before .before .before .before .before .before .before .before .before .before .before .before .before .before .before .before .loop-test .taken, c .before .before .before .before .before .before .before .before .before .before .before .before .before .before .before .before .before .before .before .before .before .before .before .before .before .before .before .before .before .before .before .before .before .before .before .before .before .before .pre .1 .1))
+mul-numbers c = fits-index _ (omega (arith, c .before .before .before .before .before .before .before .before .before .before .before .before .before .before .before .before .before .loop-test .taken, c .before .before .before .before .before .before .before .before .before .before .before .before .before .before .before .before .before .before .before .before .before .before .before .before .before .before .before .before .before .before .pre .1 .1))
 
 slice-write-numbers : tie.Need-slice-write-numbers Inv-loop μ-loop
-slice-write-numbers c = omega (arith, c .before .before .before .before .before .before .before .before .before .before .before .before .before .before .before .before .before .before .before .loop-test .taken, c .before .before .before .before .before .before .before .before .before .before .before .before .before .before .before .before .before .before .before .before .loop .inv .4, c .before .before .before .before .before .before .before .before .before .before .before .before .before .before .before .before .before .before .before .before .before .before .before .before .before .before .before .look-ahead .kept .1 .1 .1 .1 .1 .1 .1 .0, c .before .before .before .before .before .before .before .before .before .before .before .before .before .before .before .before .before .before .before .before .before .before .before .before .before .before .before .before .before .before .before .before .before .before .before .before .before .before .pre .1 .2)
+slice-write-numbers c = omega (arith, c .before .before .before .before .before .before .before .before .before .before .before .before .before .before .before .before .before .loop-test .taken, c .before .before .before .before .before .before .before .before .before .before .before .before .before .before .before .before .before .before .loop .inv .4, c .before .before .before .before .before .before .before .before .before .before .before .before .before .before .before .before .before .before .before .before .before .before .before .before .before .before .before .before .before .before .pre .1 .2)
 
 add-j : tie.Need-add-j Inv-loop μ-loop
-add-j c = omega (arith, c .before .before .before .before .before .before .before .before .before .before .before .before .before .before .before .before .before .before .before .before .loop-test .taken, c .before .before .before .before .before .before .before .before .before .before .before .before .before .before .before .before .before .before .before .before .before .before .before .before .before .before .before .before .before .before .before .before .before .before .before .before .before .before .before .pre .1 .1)
+add-j c = omega (arith, c .before .before .before .before .before .before .before .before .before .before .before .before .before .before .before .before .before .before .loop-test .taken, c .before .before .before .before .before .before .before .before .before .before .before .before .before .before .before .before .before .before .before .before .before .before .before .before .before .before .before .before .before .before .before .pre .1 .1)
 
 loop-less : tie.Need-loop-less Inv-loop μ-loop
-loop-less c = omega (arith, c .before .before .before .before .before .before .before .before .before .before .before .before .before .before .before .before .before .before .before .before .loop-test .taken)
+loop-less c = omega (arith, c .before .before .before .before .before .before .before .before .before .before .before .before .before .before .before .before .before .before .loop-test .taken)
 
 loop-again : tie.Need-loop-again Inv-loop μ-loop
 loop-again c =
-    let x = c .before .before .before .before .before .before .before .before .before .before .before .before .before .before .before .before .before .before .before .before .before .before .before .before .before .before .before .before .before .before .before .before .before .before .before .before .before .before .before in
-    let l = c .before .before .before .before .before .before .before .before .before .before .before .before .before .before .before .before .before .before .before .before .before .loop in
-    let d = c .before .before .before .before .before .before .before .before .before .before .before .before .before .before .before .before .before .before .before .surface-point3 .ensures in
-    let e = c .before .before .before .before .before .before .before .before .before .before .before .before .before .before .before .before .before .before .surface-point4 .ensures in (
-      omega (arith, c .before .before .before .before .before .before .before .before .before .before .before .before .before .before .before .before .before .before .before .before .loop-test .taken),
+    let x = c .before .before .before .before .before .before .before .before .before .before .before .before .before .before .before .before .before .before .before .before .before .before .before .before .before .before .before .before .before .before .before in
+    let l = c .before .before .before .before .before .before .before .before .before .before .before .before .before .before .before .before .before .before .before .loop in
+    let d = c .before .before .before .before .before .before .before .before .before .before .before .before .before .before .before .before .before .surface-point3 .ensures in
+    let e = c .before .before .before .before .before .before .before .before .before .before .before .before .before .before .before .before .surface-point4 .ensures in (
+      omega (arith, c .before .before .before .before .before .before .before .before .before .before .before .before .before .before .before .before .before .before .loop-test .taken),
       row-more (x .args .flip) (surfaceAt (now (x .args .corners)) (x .args .s)) (x .args .i) (l .j) _ _ _ _ _ _ _ (l .inv .2) (l .inv .3) e d (l .inv .1) (c .before .before .before .before .before .before .before .weld-cell .ensures),
       d,
       e,
@@ -143,10 +131,10 @@ loop-again c =
     )
 
 mul-numbers-2 : tie.Need-mul-numbers-2 Inv-loop μ-loop
-mul-numbers-2 c = fits-index _ (omega (arith, c .before .before .before .before .before .before .before .before .before .before .before .before .before .before .before .before .before .before .before .pre .1 .1))
+mul-numbers-2 c = fits-index _ (omega (arith, c .before .before .before .before .before .before .before .before .before .before .before .before .before .pre .1 .1))
 
 slice-write-numbers-2 : tie.Need-slice-write-numbers-2 Inv-loop μ-loop
-slice-write-numbers-2 c = omega (arith, c .before .loop .inv .4, c .before .before .before .before .before .before .before .before .look-ahead .kept .1 .1 .1 .1 .1 .1 .1 .0, c .before .before .before .before .before .before .before .before .before .before .before .before .before .before .before .before .before .before .before .pre .1 .2)
+slice-write-numbers-2 c = omega (arith, c .before .loop .inv .4, c .before .before .before .before .before .before .before .before .before .before .before .before .before .pre .1 .2)
 
 same-length : tie.Need-same-length Inv-loop μ-loop
 same-length c = c .before .loop .inv .1 .vlong
@@ -158,11 +146,11 @@ same-length-3 : tie.Need-same-length-3 Inv-loop μ-loop
 same-length-3 c = c .before .loop .inv .1 .wlong
 
 same-length-4 : tie.Need-same-length-4 Inv-loop μ-loop
-same-length-4 c = simp length-set (c .before .loop .inv .4 ∙ c .before .before .before .before .before .before .before .before .look-ahead .kept .1 .1 .1 .1 .1 .1 .1 .0)
+same-length-4 c = simp length-set (c .before .loop .inv .4)
 
 returns : tie.Need-returns Inv-loop μ-loop
 returns c =
-    let x = c .before .before .before .before .before .before .before .before .before .before .before .before .before .before .before .before .before .before .before in
+    let x = c .before .before .before .before .before .before .before .before .before .before .before .before .before in
     let e : c .before .loop .j ≡ x .args .nv = omega (arith, c .before .loop .inv .0, c .loop-test .left) in
     runs-as (ap (λ (n : ℕ). row n (x .args .flip) (surfaceAt (now (x .args .corners)) (x .args .s)) (x .args .i)) e) (c .before .loop .inv .1)
 
@@ -172,8 +160,6 @@ weld-row-spec =
     (tie.spec
     Inv-loop
     μ-loop
-    add-look-ahead
-    look-ahead-requires
     surface-point-requires
     add-surface-point
     surface-point-requires-2
@@ -190,8 +176,6 @@ weld-row-spec =
     slice-read-same-or
     same-or-requires-2
     onward-requires
-    add-ahead-or
-    ahead-or-requires
     same-or-requires-3
     same-or-requires-4
     weld-cell-requires

@@ -40,6 +40,7 @@ add-i c = omega (
   c .before .before .before .before .before .before .before .before .before .before .loop-test .taken,
   c .before .before .before .before .before .before
       .before .before .before .before .before .loop .inv .1,
+  c .before .before .before .before .before .before .before .before .before .before .before .before .before .before .before .before .good .1 .1 .1 .1 .0 .0,
 )
 
 loop-less : tie.Need-loop-less Inv-loop μ-loop

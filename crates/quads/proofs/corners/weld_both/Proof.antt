@@ -27,7 +27,7 @@ add-triangle-requires c κs = (
 weld-point-requires-4 : tie.Need-weld-point-requires-4
 weld-point-requires-4 c κs =
     let r = c .before .before .before .before .add-triangle .ensures in
-    (linked-moved (c .before .before .before .before .before .before .before .before .before .before .before .weld-point3 .result .st) (c .before .before .before .before .add-triangle .result) (r .base) (r .count) (r .places) (c .before .before .before .before .before .before .before .before .before .before .before .weld-point3 .ensures .linked), c .before .before .before .before .before .before .before .before .before .before .before .before .before .before .before .before .before .before .before .before .before .before .before .before .before .before .before .before .before .before .before .before .before .pre .1 .3)
+    (linked-moved (c .before .before .before .before .before .before .before .before .before .before .before .weld-point3 .result .st) (c .before .before .before .before .add-triangle .result) (r .base) (r .count) (r .places) (r .ordered) (r .row) (c .before .before .before .before .before .before .before .before .before .before .before .weld-point3 .ensures .linked), c .before .before .before .before .before .before .before .before .before .before .before .before .before .before .before .before .before .before .before .before .before .before .before .before .before .before .before .before .before .before .before .before .before .pre .1 .3)
 
 add-triangle-requires-2 : tie.Need-add-triangle-requires-2
 add-triangle-requires-2 c κs =

@@ -83,8 +83,8 @@ slice-write-triangles-3 : tie.Need-slice-write-triangles-3
 slice-write-triangles-3 c =
     simp length-set (omega arith)
 
-add-t10 : tie.Need-add-t10
-add-t10 c = search needs
+with-face-requires : tie.Need-with-face-requires
+with-face-requires c κs = search needs
 
 same-length : tie.Need-same-length
 same-length c = search needs
@@ -92,10 +92,11 @@ same-length c = search needs
 returns-6 : tie.Need-returns-6
 unfolding placesOf
 returns-6 c =
-    let s = c .before .before .before .before .before .before .before in
-    triangle-new (s .args .a) (s .args .b) (s .args .c) (s .args .w) (now (s .args .triangles)) (s .pre .0) (c .before .before .before .before .if2 .left)
-    (c .before .before .before .if3 .left) (c .before .before .if4 .left) (not-false _ (c .before .before .before .before .before .if1 .left))
-    (omega (arith, c .if5 .left, c .before .whole-places .ensures))
+    let s = c .before .before .before .before .before .before .before .before in
+    rw (c .with-face .ensures)
+    (triangle-new (s .args .a) (s .args .b) (s .args .c) (s .args .w) (now (s .args .triangles)) (s .pre .0) (c .before .before .before .before .before .if2 .left)
+    (c .before .before .before .before .if3 .left) (c .before .before .before .if4 .left) (not-false _ (c .before .before .before .before .before .before .if1 .left))
+    (omega (arith, c .before .if5 .left, c .before .before .whole-places .ensures)))
 
 pub add-triangle-spec : {M : Type 1} → statement M
 add-triangle-spec =
@@ -120,6 +121,6 @@ add-triangle-spec =
     add-triangles-2
     mul-triangles-3
     slice-write-triangles-3
-    add-t10
+    with-face-requires
     same-length
     returns-6)

@@ -20,13 +20,19 @@ full-requires c κs = search needs
 returns-2 : tie.Need-returns-2
 returns-2 c =
     let s = c .before .before .before .before .before in
-    let z = c .before .before .before .before .before .pre .0 .chained .within in
+    let z = s .pre .0 .chained .within in
     rw (c .full .ensures) (point-full (s .args .w) (now (s .args .vertices)) (now (s .args .work)) (s .pre .0) (s .args .p) (not-false _ (c .before .before .if1 .left)) (λ m a k q. omega (arith, c .before .if2 .taken)) (omega (arith, c .before .if2 .taken)))
 
-place-of-requires : tie.Need-place-of-requires
-place-of-requires c κs =
-    let s = c .before .before .before .before .before .before in
-    (s .pre .0 .chained, (search needs, omega (arith, places-limit (now (s .args .vertices)), s .pre .0 .places), s .pre .1))
+foresee-requires : tie.Need-foresee-requires
+foresee-requires c κs =
+    let s = c .before .before .before .before .before in
+    let l = s .pre .0 in
+    (record { room = omega (arith, l .chained .room, l .chained .within); based = l .chained .based; clean = l .chained .clean; rows = l .rows }, s .pre .1)
+
+number-of-requires : tie.Need-number-of-requires
+number-of-requires c κs =
+    let s = c .before .before .before .before .before .before .before .before in
+    (s .pre .0 .chained, (search needs, omega (arith, places-limit (now (s .args .vertices)), s .pre .0 .places), s .pre .1, c .before .before .foresee .ensures .missing))
 
 same-length : tie.Need-same-length
 same-length c = search needs
@@ -36,12 +42,14 @@ same-length-2 c = search needs
 
 returns-3 : tie.Need-returns-3
 returns-3 c =
-    let s = c .before .before .before .before .before .before .before .before .before .before .before .before in
-    let f = c .before .before .before .before .before .place-of .ensures .found (c .if3 .taken) in
-    rw (f .1, f .2) (point-at (s .args .w) (now (s .args .vertices)) (now (s .args .work)) (s .pre .0) (s .args .p) (c .before .before .before .before .before .place-of .result) (not-false _ (c .before .before .before .before .before .before .before .before .before .if1 .left)) (f .0))
+    let s = c .before .before .before .before .before .before .before .before .before .before .before .before .before .before in
+    let f = c .before .before .before .before .before .number-of .ensures .found (c .if3 .taken) in
+    rw (f .1, f .2) (point-at (s .args .w) (now (s .args .vertices)) (now (s .args .work)) (s .pre .0) (s .args .p) (c .before .before .before .before .before .number-of .result) (not-false _ (c .before .before .before .before .before .before .before .before .before .before .before .if1 .left)) (f .0))
 
-add-t16 : tie.Need-add-t16
-add-t16 c = search needs
+grown-requires : tie.Need-grown-requires
+grown-requires c κs =
+    let s = c .before .before .before .before .before .before .before .before .before .before .before .before .before .before .before in
+    omega (arith, places-limit (now (s .args .vertices)), s .pre .0 .places, s .pre .0 .chained .within)
 
 same-length-3 : tie.Need-same-length-3
 same-length-3 c = search needs
@@ -51,9 +59,10 @@ same-length-4 c = search needs
 
 returns-4 : tie.Need-returns-4
 returns-4 c =
-    let s = c .before .before .before .before .before .before .before .before .before .before .before .before .before in
-    let n = c .before .before .before .before .before .before .place-of .ensures .new (c .if4 .taken) in
-    rw (n .3, n .4, c .if4 .taken) (point-new (s .args .w) (now (s .args .vertices)) (now (s .args .work)) (s .pre .0) (s .args .p) (s .pre .1) _ refl (n .2) (not-false _ (c .before .before .before .before .before .before .before .before .before .before .if1 .left)) (n .0) (n .1))
+    let s = c .before .before .before .before .before .before .before .before .before .before .before .before .before .before .before .before in
+    let n = c .before .before .before .before .before .before .before .number-of .ensures .new (c .before .if4 .taken) in
+    rw (n .3, n .4, c .before .if4 .taken, c .grown .ensures)
+    (point-new (s .args .w) (now (s .args .vertices)) (now (s .args .work)) (s .pre .0) (s .args .p) (c .before .before .before .before .before .before .before .before .before .before .foresee .result) (c .before .before .before .before .before .before .before .before .before .before .foresee .ensures .row) (s .pre .1) _ refl (n .2) (not-false _ (c .before .before .before .before .before .before .before .before .before .before .before .before .before .if1 .left)) (n .0) (n .1))
 
 full-requires-2 : tie.Need-full-requires-2
 full-requires-2 c κs = search needs
@@ -66,9 +75,9 @@ same-length-6 c = search needs
 
 returns-5 : tie.Need-returns-5
 returns-5 c =
-    let s = c .before .before .before .before .before .before .before .before .before .before .before .before .before .before in
-    let f = c .before .before .before .before .before .before .before .place-of .ensures .full (omega (arith, c .before .before .if3 .left, c .before .if4 .left)) in
-    rw (f .2, f .3, c .full2 .ensures) (point-full (s .args .w) (now (s .args .vertices)) (now (s .args .work)) (s .pre .0) (s .args .p) (not-false _ (c .before .before .before .before .before .before .before .before .before .before .before .if1 .left)) (f .0) (f .1))
+    let s = c .before .before .before .before .before .before .before .before .before .before .before .before .before .before .before .before in
+    let f = c .before .before .before .before .before .before .before .number-of .ensures .full (omega (arith, c .before .before .if3 .left, c .before .if4 .left)) in
+    rw (f .2, f .3, c .full2 .ensures) (point-full (s .args .w) (now (s .args .vertices)) (now (s .args .work)) (s .pre .0) (s .args .p) (not-false _ (c .before .before .before .before .before .before .before .before .before .before .before .before .before .if1 .left)) (f .0) (f .1))
 
 pub look-up-spec : {M : Type 1} → statement M
 look-up-spec =
@@ -77,11 +86,12 @@ look-up-spec =
     returns
     full-requires
     returns-2
-    place-of-requires
+    foresee-requires
+    number-of-requires
     same-length
     same-length-2
     returns-3
-    add-t16
+    grown-requires
     same-length-3
     same-length-4
     returns-4

@@ -10,10 +10,10 @@ look-up-requires : tie.Need-look-up-requires
 look-up-requires c κs = search needs
 
 look-up-requires-2 : tie.Need-look-up-requires-2
-look-up-requires-2 c κs = search needs
+look-up-requires-2 c κs = (c .before .before .before .before .before .before .before .look-up .ensures .linked, c .before .before .before .before .before .before .before .before .before .before .before .before .before .pre .1 .1)
 
 look-up-requires-3 : tie.Need-look-up-requires-3
-look-up-requires-3 c κs = search needs
+look-up-requires-3 c κs = (c .before .before .before .before .before .before .before .look-up2 .ensures .linked, c .before .before .before .before .before .before .before .before .before .before .before .before .before .before .before .before .before .before .before .before .before .pre .1 .2)
 
 add-triangle-requires : tie.Need-add-triangle-requires
 add-triangle-requires c κs =

@@ -1,0 +1,10 @@
+-- `rows::first_row` meets its contract. Assumes nothing.
+use Rattle.rows.proofs.Following.{alone}
+use Rattle.rows.proofs.first_row.Statement.{statement}
+use Rattle.rows.proofs.first_row.Tie as tie
+
+returns : tie.Need-returns
+returns c = alone (c .args .p) (c .pre)
+
+pub first-row-spec : {M : Type 1} → statement M
+first-row-spec = tie.close (tie.spec returns)

@@ -1,0 +1,64 @@
+// Whether a point is new, as far as the rows of vertices show it: see `rows`.
+ghost use mathlib.Core.Path.{_≡_};
+ghost use mathlib.Core.Bool.{true, false};
+ghost use Prim.Native.Nat.{_<_};
+ghost use Rattle.chain.specs.Points.{Clean};
+ghost use Rattle.weld.specs.Rep.{InRows};
+ghost use Rattle.weld.specs.Steps.{freshIn, Foresees};
+use crate::Foreseen;
+use crate::Welder;
+use math::Vec3;
+use rows::Row;
+
+// A new point, and the row after it.
+fn fresh(row: Row) -> Foreseen
+    ensures { λ r. ⌜ r ≡ freshIn row ⌝ }
+{
+    Foreseen {
+        near: row.near,
+        fresh: true,
+        rising: row.rising,
+    }
+}
+
+// A point that has to be searched for.
+fn unknown() -> Foreseen
+    ensures { λ r. ⌜ r .fresh ≡ false ⌝ }
+{
+    Foreseen {
+        near: 0.0,
+        fresh: false,
+        rising: false,
+    }
+}
+
+// The first point of a part is new, and so is one that continues the rows.
+pub fn foresee(vertices: &[f64], w: Welder, p: Vec3) -> Foreseen
+    requires { ⌜ InRows w (now vertices) × Clean p ⌝ }
+    ensures { λ r. ⌜ Foresees w (now (vertices .entry)) p r ⌝ }
+{
+    if w.base == w.count {
+        return fresh(rows::first_row(p));
+    }
+    let ordered = w.ordered;
+    if ordered {
+        return from_last(vertices, w, p);
+    }
+    unknown()
+}
+
+// The same where there are vertices, and they came row by row.
+fn from_last(vertices: &[f64], w: Welder, p: Vec3) -> Foreseen
+    requires { ⌜ InRows w (now vertices) × Clean p × (w .base < w .count) × (w .ordered ≡ true) ⌝ }
+    ensures { λ r. ⌜ Foresees w (now (vertices .entry)) p r ⌝ }
+{
+    let row = Row {
+        near: w.near,
+        rising: w.rising,
+    };
+    let last = chain::vertex(vertices, w.count - 1);
+    if rows::is_within(row, last, p) {
+        return unknown();
+    }
+    fresh(rows::next_row(row, last, p))
+}
