@@ -38,7 +38,7 @@ pub const ROWS: [(&str, fn(&'static str) -> Row); 15] = [
     ("area", area),
     ("signed_volume", signed_volume),
     ("append", append),
-    ("append in place", append_in_place),
+    ("append growing", append_growing),
     ("flip", flip),
     ("transform", transform),
     ("from_soup 1000000", from_soup),
@@ -143,8 +143,8 @@ fn signed_volume(name: &'static str) -> Row {
 }
 
 /// The sphere appended to itself. Ours gets the first counts again before each call. The Rust's lists are as `tessellate` leaves them, without
-/// room for more, and grow in the call. The triangles that are appended count.
-fn append(name: &'static str) -> Row {
+/// room for more, and grow in the call; ours has room in both rows. The triangles that are appended count.
+fn append_growing(name: &'static str) -> Row {
     let (other, more) = meshes(name, 1);
     let (mut lent, mesh) = meshes(name, 2);
     let (n, k) = (mesh.vertices.len(), mesh.triangles.len());
@@ -172,7 +172,7 @@ fn append(name: &'static str) -> Row {
 }
 
 /// The same where the Rust's lists are cut back and keep their capacity, so that neither side allocates.
-fn append_in_place(name: &'static str) -> Row {
+fn append(name: &'static str) -> Row {
     let (other, more) = meshes(name, 1);
     let (mut lent, mut mesh) = meshes(name, 2);
     let (n, k) = (mesh.vertices.len(), mesh.triangles.len());
