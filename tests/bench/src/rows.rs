@@ -142,6 +142,14 @@ fn signed_volume(name: &'static str) -> Row {
     }
 }
 
+/// Our append, from n vertices and k triangles on at each call.
+fn append_again(mut lent: Lent, other: Lent, n: usize, k: usize) -> Box<dyn FnMut()> {
+    Box::new(move || {
+        (lent.vertex_count, lent.triangle_count) = (n, k);
+        black_box(ours::append(black_box(&mut lent), &other));
+    })
+}
+
 /// The sphere appended to itself. Ours gets the first counts again before each call. The Rust's lists are as `tessellate` leaves them, without
 /// room for more, and grow in the call; ours has room in both rows. The triangles that are appended count.
 fn append_growing(name: &'static str) -> Row {
@@ -156,10 +164,7 @@ fn append_growing(name: &'static str) -> Row {
     Row {
         name,
         triangles: k,
-        ours: Box::new(move || {
-            (lent.vertex_count, lent.triangle_count) = (n, k);
-            black_box(ours::append(black_box(&mut lent), &other));
-        }),
+        ours: append_again(lent, other, n, k),
         prepare: Box::new(move |calls| *filled.borrow_mut() = (vec![mesh.clone(); calls], Vec::with_capacity(calls))),
         rust: Box::new(move || {
             let (waiting, done) = &mut *pool.borrow_mut();
@@ -181,10 +186,7 @@ fn append(name: &'static str) -> Row {
     Row {
         name,
         triangles: k,
-        ours: Box::new(move || {
-            (lent.vertex_count, lent.triangle_count) = (n, k);
-            black_box(ours::append(black_box(&mut lent), &other));
-        }),
+        ours: append_again(lent, other, n, k),
         prepare: unprepared(),
         rust: Box::new(move || {
             mesh.vertices.truncate(n);
