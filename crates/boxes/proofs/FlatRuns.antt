@@ -20,7 +20,7 @@ use Rattle.boxes.specs.Flat.{quadOf}
 
 -- the first vertex of a part has a number of 32 bits
 pub base-small : (w : Welder) (vs : List Float) (ws : List ℕ) → Linked w vs ws → w .base < 2 ^ 32
-base-small w vs ws L = omega (arith, L .chained .based, L .chained .within, L .places, places-limit vs)
+base-small w vs ws L = omega (arith, L .stored .based, L .stored .within, L .places, places-limit vs)
 
 -- the quad in either order
 pub order-high : (side : Bool) (a b c d : Vec3) → side ≡ true → quadOf (record { a = a; b = b; c = c; d = d }) ≡ turned (not side) a b c d

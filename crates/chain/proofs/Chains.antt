@@ -16,10 +16,10 @@ use Rattle.math.specs.declared.Vec3.{Vec3}
 use Rattle.trimesh.specs.Mesh.{samePoint}
 use Rattle.chain.specs.declared.Found.{Found}
 use Rattle.chain.specs.declared.Found.the-variants.{At, Missing}
-use Rattle.chain.specs.Points.{Clean, vertexAt, placed}
-use Rattle.chain.specs.Hash.{bucketOf, latest, Chained, linkedIn, FirstAt, Sought, Placing}
-use Rattle.chain.proofs.Clean.{same-data}
-use Rattle.chain.proofs.Places.{placed-at, placed-before, apart}
+use Rattle.stored.specs.Points.{Clean, vertexAt, placed}
+use Rattle.chain.specs.Hash.{bucketOf, latest, Stored, Agrees, Chained, linkedIn, FirstAt, Sought, Placing}
+use Rattle.stored.proofs.Clean.{same-data}
+use Rattle.stored.proofs.Places.{placed-at, placed-before, apart}
 
 -- ---- the latest vertex of a bucket
 module _ (places : ℕ) (vs : List Float) (b : ℕ) where
@@ -59,12 +59,34 @@ unfolding latest
 latest-cong places vs us b zero h = refl
 latest-cong places vs us b (suc n) h = λ i. cond (eqb (bucketOf places (h n (le-refl (suc n)) i)) b) (suc n) (latest-cong places vs us b n (λ m k. h m (le-trans k (le-suc n))) i)
 
+-- ---- numbers that agree above base
+lt-or-le : (m n : ℕ) → (m < n) ⊎ (n ≤ m)
+lt-or-le m zero = inr zero-le
+lt-or-le zero (suc n) = inl (omega arith)
+lt-or-le (suc m) (suc n) = ⊎-elim (λ w. inl (suc-le-suc w)) (λ w. inr (suc-le-suc w)) (lt-or-le m n)
+
+pub agree-same : (base l : ℕ) → Agrees base l l
+agree-same base l = record { above = λ a. refl; below = λ a. a }
+
+pub agree-as : {base h h′ l l′ : ℕ} → h′ ≡ h → l ≡ l′ → Agrees base h l → Agrees base h′ l′
+agree-as p q A = rw (p, sym q) A
+
+module _ (base h l : ℕ) (A : Agrees base h l) where
+  pub agree-low : (n : ℕ) → base ≤ n → l ≤ n → h ≤ n
+  agree-low n b k = ⊎-elim (λ w. omega (arith, A .above w)) (λ w. omega (arith, A .below w)) (lt-or-le base l)
+
+  pub agree-past : (m : ℕ) → base ≤ m → h ≤ m → l ≤ m
+  agree-past m b k = ⊎-elim (λ w. omega (arith, A .above w)) (λ w. omega arith) (lt-or-le base l)
+
+  pub agree-here : base < h → h ≡ l
+  agree-here k = ⊎-elim (λ w. A .above w) (λ w. absurd (omega (arith, A .below w))) (lt-or-le base l)
+
 -- ---- the walk down a chain
 
--- k is one more than the next vertex to look at, or 0, and every vertex past it since base differs from p
+-- k is one more than the next vertex to look at, or leads to earlier ones than those from base on, and every vertex past it since base differs from p
 pub record Walk (vs : List Float) (places base count : ℕ) (p : Vec3) (k : ℕ) : Type 0 where
   pub low : k ≤ count
-  pub here : (m : ℕ) → k ≡ suc m → bucketOf places (vertexAt vs m) ≡ bucketOf places p
+  pub here : base < k → (m : ℕ) → k ≡ suc m → bucketOf places (vertexAt vs m) ≡ bucketOf places p
   pub past : (m : ℕ) → k ≤ m → m < count → base ≤ m → samePoint (vertexAt vs m) p ≡ true → ⊥
 
 pub split3 : (m n : ℕ) → (m < n) ⊎ ((m ≡ n) ⊎ (n < m))
@@ -77,39 +99,10 @@ pub not-both : (t : Bool) → t ≡ true → t ≡ false → ⊥
 not-both true p q = let z : _≡_ {A = ℕ} 0 1 = ap (λ (b : Bool). cond b 0 1) q in omega (arith, z)
 not-both false p q = let z : _≡_ {A = ℕ} 1 0 = ap (λ (b : Bool). cond b 0 1) p in omega (arith, z)
 
-module _ (vs : List Float) (ws : List ℕ) (places base count : ℕ) (h : Chained vs ws places base count) (p : Vec3) (cp : Clean p) where
+module _ (vs : List Float) (places base count : ℕ) (h : Stored vs places base count) (p : Vec3) (cp : Clean p) where
   -- a vertex that equals p is in p's bucket
   in-bucket : (m : ℕ) → m < count → samePoint (vertexAt vs m) p ≡ true → bucketOf places (vertexAt vs m) ≡ bucketOf places p
   in-bucket m k s = ap (bucketOf places) (same-data (vertexAt vs m) p (h .clean m k) cp s)
-
-  pub walk-start : (b k : ℕ) → b ≡ bucketOf places p → b < places → k ≡ getD ws b 0 → Walk vs places base count p k
-  walk-start b k e l q =
-      let z : k ≡ latest places vs b count = q ∙ h .heads b l in
-      record {
-        low = subst (λ (j : ℕ). j ≤ count) (sym z) (latest-le places vs b count);
-        here = λ m w. latest-in places vs b count m (sym z ∙ w) ∙ e;
-        past = λ m a j c s. latest-none places vs b count m (subst (λ (j : ℕ). j ≤ m) z a) j (in-bucket m j s ∙ sym e);
-      }
-
-  pub walk-next : (k m j : ℕ) → Walk vs places base count p k → k ≡ suc m → samePoint (vertexAt vs m) p ≡ false → j ≡ getD ws (places + m) 0 → Walk vs places base count p j
-  walk-next k m j w e f q =
-      let l : m < count = omega arith in
-      let b = bucketOf places p in
-      let z : j ≡ latest places vs b m = q ∙ h .nexts m l ∙ ap (λ (c : ℕ). latest places vs c m) (w .here m e) in
-      let u : latest places vs b m ≤ m = latest-le places vs b m in
-      record {
-        low = omega arith;
-        here = λ i r. latest-in places vs b m i (sym z ∙ r);
-        past = λ i a c d s.
-            ⊎-elim (λ lt. latest-none places vs b m i (subst (λ (j : ℕ). j ≤ i) z a) lt (in-bucket i c s))
-            (⊎-elim (λ eq. not-both (samePoint (vertexAt vs m) p) (subst (λ (x : ℕ). samePoint (vertexAt vs x) p ≡ true) eq s) f)
-            (λ gt. w .past i (omega arith) c d s)) (split3 i m);
-      }
-
-  pub walk-less : (k m j : ℕ) → Walk vs places base count p k → k ≡ suc m → j ≡ getD ws (places + m) 0 → j < k
-  walk-less k m j w e q =
-      let l : m < count = omega arith in
-      omega (arith, h .nexts m l, latest-le places vs (bucketOf places (vertexAt vs m)) m)
 
   -- a vertex of this part that equals p is the first, since no two of its vertices are equal
   pub first-at : (m : ℕ) → base ≤ m → m < count → samePoint (vertexAt vs m) p ≡ true → FirstAt vs base count p m
@@ -126,6 +119,38 @@ module _ (vs : List Float) (ws : List ℕ) (places base count : ℕ) (h : Chaine
 
   pub walk-end : (k : ℕ) → Walk vs places base count p k → k ≤ base → Sought vs base count p Missing
   walk-end k w l = λ m a i s. w .past m (le-trans l a) i a s
+
+  module _ (ws : List ℕ) (c : Chained vs ws places base count) where
+    pub walk-start : (b k : ℕ) → b ≡ bucketOf places p → b < places → k ≡ getD ws b 0 → Walk vs places base count p k
+    walk-start b k e l q =
+        let A : Agrees base k (latest places vs b count) = agree-as q refl (c .heads b l) in
+        record {
+          low = agree-low base k (latest places vs b count) A count (h .based) (latest-le places vs b count);
+          here = λ lt m w. latest-in places vs b count m (sym (agree-here base k (latest places vs b count) A lt) ∙ w) ∙ e;
+          past = λ m a j d s. latest-none places vs b count m (agree-past base k (latest places vs b count) A m d a) j (in-bucket m j s ∙ sym e);
+        }
+
+    next-agrees : (k m j : ℕ) → Walk vs places base count p k → base < k → k ≡ suc m → j ≡ getD ws (places + m) 0 → Agrees base j (latest places vs (bucketOf places p) m)
+    next-agrees k m j w lt e q = agree-as q (ap (λ (b : ℕ). latest places vs b m) (w .here lt m e)) (c .nexts m (omega arith) (omega (arith, w .low)))
+
+    pub walk-next : (k m j : ℕ) → Walk vs places base count p k → base < k → k ≡ suc m → samePoint (vertexAt vs m) p ≡ false → j ≡ getD ws (places + m) 0 → Walk vs places base count p j
+    walk-next k m j w lt e f q =
+        let b = bucketOf places p in
+        let A = next-agrees k m j w lt e q in
+        let u : j ≤ m = agree-low base j (latest places vs b m) A m (omega arith) (latest-le places vs b m) in
+        record {
+          low = omega (arith, w .low);
+          here = λ r i t. latest-in places vs b m i (sym (agree-here base j (latest places vs b m) A r) ∙ t);
+          past = λ i a n d s.
+              ⊎-elim (λ lt. latest-none places vs b m i (agree-past base j (latest places vs b m) A i d a) lt (in-bucket i n s))
+              (⊎-elim (λ eq. not-both (samePoint (vertexAt vs m) p) (subst (λ (x : ℕ). samePoint (vertexAt vs x) p ≡ true) eq s) f)
+              (λ gt. w .past i (omega arith) n d s)) (split3 i m);
+        }
+
+    pub walk-less : (k m j : ℕ) → Walk vs places base count p k → base < k → k ≡ suc m → j ≡ getD ws (places + m) 0 → j < k
+    walk-less k m j w lt e q =
+        let u : j ≤ m = agree-low base j (latest places vs (bucketOf places p) m) (next-agrees k m j w lt e q) m (omega arith) (latest-le places vs (bucketOf places p) m) in
+        omega arith
 
 -- ---- what was found stays found
 module _ (vs : List Float) (base count : ℕ) (p q : Vec3) (m : ℕ) (F : FirstAt vs base count q m) where
@@ -149,62 +174,16 @@ first-new vs base count p b l s miss =
       first = λ j a r t. miss j a r (sym (ap (λ (v : Vec3). samePoint v p) (placed-before vs count p j r)) ∙ t);
     }
 
--- ---- a vertex is appended to the chains
-
-module _ (vs : List Float) (ws : List ℕ) (places base count : ℕ) (h : Chained vs ws places base count) (p : Vec3) (cp : Clean p) (lt : count < places) (b : ℕ)
-    (e : b ≡ bucketOf places p) (bl : b < places) where
+-- ---- a vertex is written
+module _ (vs : List Float) (places base count : ℕ) (h : Stored vs places base count) (p : Vec3) (lt : count < places) where
   old : (m : ℕ) → m < count → vertexAt (placed vs count p) m ≡ vertexAt vs m
   old m k = placed-before vs count p m k
 
   new : vertexAt (placed vs count p) count ≡ p
   new = placed-at vs count p (omega (arith, h .room))
 
-  latest-new : (d : ℕ) → latest places (placed vs count p) d (suc count) ≡ cond (eqb b d) (suc count) (latest places vs d count)
-  unfolding latest
-  latest-new d =
-      (λ i. cond (eqb (bucketOf places (new i)) d) (suc count) (latest-cong places (placed vs count p) vs d count old i))
-      ∙ ap (λ (x : ℕ). cond (eqb x d) (suc count) (latest places vs d count)) (sym e)
-
-  -- the heads: that of b is the new vertex, and no other changed
-  heads' : (d : ℕ) → d < places → getD (linkedIn ws places count b) d 0 ≡ latest places (placed vs count p) d (count + 1)
-  heads' d k =
-      ⊎-elim
-      (λ w. apart (set ws (places + count) (getD ws b 0)) b d (count + 1) 0 (inl w) ∙ other d k (λ q. omega arith))
-      (⊎-elim
-      (λ w. subst (λ (x : ℕ). getD (linkedIn ws places count b) x 0 ≡ latest places (placed vs count p) x (count + 1)) (sym w) same-head)
-      (λ w. apart (set ws (places + count) (getD ws b 0)) b d (count + 1) 0 (inr w) ∙ other d k (λ q. omega arith)))
-      (split3 d b)
-    where
-      other : (d : ℕ) → d < places → (b ≡ d → ⊥) → getD (set ws (places + count) (getD ws b 0)) d 0 ≡ latest places (placed vs count p) d (count + 1)
-      other d k n =
-          apart ws (places + count) d (getD ws b 0) 0 (inl (omega arith)) ∙ h .heads d k ∙ sym (ap (latest places (placed vs count p) d) (add-one count) ∙ latest-new d
-          ∙ ap (λ (t : Bool). cond t (suc count) (latest places vs d count)) (ne-eqb b d n))
-
-      same-head : getD (linkedIn ws places count b) b 0 ≡ latest places (placed vs count p) b (count + 1)
-      same-head =
-          getD-set-same (set ws (places + count) (getD ws b 0)) b (count + 1) 0 (simp length-set (omega (arith, h .links)))
-          ∙ add-one count
-          ∙ sym (ap (latest places (placed vs count p) b) (add-one count) ∙ latest-new b ∙ ap (λ (t : Bool). cond t (suc count) (latest places vs b count)) (eq-eqb b b refl))
-
-  nexts' : (m : ℕ) → m < count + 1 → getD (linkedIn ws places count b) (places + m) 0 ≡ latest places (placed vs count p) (bucketOf places (vertexAt (placed vs count p) m)) m
-  nexts' m k =
-      apart (set ws (places + count) (getD ws b 0)) b (places + m) (count + 1) 0 (inr (omega arith))
-      ∙ ⊎-elim
-      (λ w. subst (λ (x : ℕ). getD (set ws (places + count) (getD ws b 0)) (places + x) 0 ≡ latest places (placed vs count p) (bucketOf places (vertexAt (placed vs count p) x)) x) (sym w) at-new)
-      (λ w. apart ws (places + count) (places + m) (getD ws b 0) 0 (inl (omega arith)) ∙ h .nexts m w
-      ∙ ap (λ (v : Vec3). latest places vs (bucketOf places v) m) (sym (old m w))
-      ∙ sym (latest-cong places (placed vs count p) vs (bucketOf places (vertexAt (placed vs count p) m)) m (λ j l. old j (omega arith))))
-      (eq-or-lt-of-le {n = m} {m = count} (omega arith))
-    where
-      at-new : getD (set ws (places + count) (getD ws b 0)) (places + count) 0 ≡ latest places (placed vs count p) (bucketOf places (vertexAt (placed vs count p) count)) count
-      at-new =
-          getD-set-same ws (places + count) (getD ws b 0) 0 (omega (arith, h .links))
-          ∙ h .heads b bl
-          ∙ sym (latest-cong places (placed vs count p) vs b count old)
-          ∙ ap (λ (x : ℕ). latest places (placed vs count p) x count) (e ∙ sym (ap (bucketOf places) new))
-
-  clean' : (m : ℕ) → m < count + 1 → Clean (vertexAt (placed vs count p) m)
-  clean' m k =
+  clean' : Clean p → (m : ℕ) → m < count + 1 → Clean (vertexAt (placed vs count p) m)
+  clean' cp m k =
       ⊎-elim
       (λ w. subst (λ (x : ℕ). Clean (vertexAt (placed vs count p) x)) (sym w) (subst Clean (sym new) cp))
       (λ w. subst Clean (sym (old m w)) (h .clean m w))
@@ -220,20 +199,88 @@ module _ (vs : List Float) (ws : List ℕ) (places base count : ℕ) (h : Chaine
       at-count : m ≡ count → vertexAt (placed vs count p) m ≡ p
       at-count w = ap (vertexAt (placed vs count p)) w ∙ new
 
-  pub chain-more : Sought vs base count p Missing → Chained (placed vs count p) (linkedIn ws places count b) places base (count + 1)
-  chain-more miss =
+  pub stored-more : Clean p → Sought vs base count p Missing → Stored (placed vs count p) places base (count + 1)
+  stored-more cp miss =
       record {
         room = simp length-set (h .room);
-        links = simp length-set (h .links);
         within = omega arith;
         based = omega (arith, h .based);
-        heads = heads';
-        nexts = nexts';
-        clean = clean';
+        clean = clean' cp;
         fresh = fresh' miss;
       }
 
--- ---- the cases of `place_of`
+  -- chains of vertices before it stay as they are
+  pub chained-still : (ws : List ℕ) (n : ℕ) → n ≤ count → Chained vs ws places base n → Chained (placed vs count p) ws places base n
+  chained-still ws n k c =
+      record {
+        links = c .links;
+        heads = λ b l. agree-as refl (sym (latest-cong places (placed vs count p) vs b n (λ m j. old m (omega arith)))) (c .heads b l);
+        nexts = λ m a l. agree-as refl
+            (ap (λ (v : Vec3). latest places vs (bucketOf places v) m) (sym (old m (omega arith)))
+            ∙ sym (latest-cong places (placed vs count p) vs (bucketOf places (vertexAt (placed vs count p) m)) m (λ j i. old j (omega arith))))
+            (c .nexts m a l);
+      }
+
+-- ---- a vertex is put at the head of its bucket
+module _ (vs : List Float) (ws : List ℕ) (places base n : ℕ) (c : Chained vs ws places base n) (lt : n < places) (b : ℕ) (e : b ≡ bucketOf places (vertexAt vs n)) (bl : b < places) where
+  latest-next : (d : ℕ) → latest places vs d (n + 1) ≡ cond (eqb b d) (suc n) (latest places vs d n)
+  unfolding latest
+  latest-next d = ap (latest places vs d) (add-one n) ∙ ap (λ (x : ℕ). cond (eqb x d) (suc n) (latest places vs d n)) (sym e)
+
+  -- the heads: that of b is the new vertex, and no other changed
+  heads' : (d : ℕ) → d < places → Agrees base (getD (linkedIn ws places n b) d 0) (latest places vs d (n + 1))
+  heads' d k =
+      ⊎-elim
+      (λ w. agree-as (apart (set ws (places + n) (getD ws b 0)) b d (n + 1) 0 (inl w)) refl (other (λ q. omega arith)))
+      (⊎-elim
+      (λ w. subst (λ (x : ℕ). Agrees base (getD (linkedIn ws places n b) x 0) (latest places vs x (n + 1))) (sym w) same-head)
+      (λ w. agree-as (apart (set ws (places + n) (getD ws b 0)) b d (n + 1) 0 (inr w)) refl (other (λ q. omega arith))))
+      (split3 d b)
+    where
+      other : (b ≡ d → ⊥) → Agrees base (getD (set ws (places + n) (getD ws b 0)) d 0) (latest places vs d (n + 1))
+      other q =
+          agree-as (apart ws (places + n) d (getD ws b 0) 0 (inl (omega arith)))
+          (sym (latest-next d ∙ ap (λ (t : Bool). cond t (suc n) (latest places vs d n)) (ne-eqb b d q))) (c .heads d k)
+
+      same-head : Agrees base (getD (linkedIn ws places n b) b 0) (latest places vs b (n + 1))
+      same-head =
+          agree-as (getD-set-same (set ws (places + n) (getD ws b 0)) b (n + 1) 0 (simp length-set (omega (arith, c .links))) ∙ add-one n)
+          (sym (latest-next b ∙ ap (λ (t : Bool). cond t (suc n) (latest places vs b n)) (eq-eqb b b refl))) (agree-same base (suc n))
+
+  nexts' : (m : ℕ) → base ≤ m → m < n + 1 → Agrees base (getD (linkedIn ws places n b) (places + m) 0) (latest places vs (bucketOf places (vertexAt vs m)) m)
+  nexts' m a k =
+      agree-as (apart (set ws (places + n) (getD ws b 0)) b (places + m) (n + 1) 0 (inr (omega arith))) refl
+      (⊎-elim
+      (λ w. subst (λ (x : ℕ). Agrees base (getD (set ws (places + n) (getD ws b 0)) (places + x) 0) (latest places vs (bucketOf places (vertexAt vs x)) x)) (sym w) at-new)
+      (λ w. agree-as (apart ws (places + n) (places + m) (getD ws b 0) 0 (inl (omega arith))) refl (c .nexts m a w))
+      (eq-or-lt-of-le {n = m} {m = n} (omega arith)))
+    where
+      at-new : Agrees base (getD (set ws (places + n) (getD ws b 0)) (places + n) 0) (latest places vs (bucketOf places (vertexAt vs n)) n)
+      at-new = agree-as (getD-set-same ws (places + n) (getD ws b 0) 0 (omega (arith, c .links))) (ap (λ (x : ℕ). latest places vs x n) e) (c .heads b bl)
+
+  pub chained-next : Chained vs (linkedIn ws places n b) places base (n + 1)
+  chained-next = record { links = simp length-set (c .links); heads = heads'; nexts = nexts' }
+
+-- a new part has no vertices yet: whatever the chains lead to is earlier
+pub chained-part : (vs : List Float) (ws : List ℕ) (places base n count : ℕ) → Chained vs ws places base n → base ≤ n → n ≤ count → Chained vs ws places count count
+chained-part vs ws places base n count c l k =
+    record {
+      links = c .links;
+      heads = λ b i.
+          let u : latest places vs b count ≤ count = latest-le places vs b count in
+          let v : getD ws b 0 ≤ n = agree-low base (getD ws b 0) (latest places vs b n) (c .heads b i) n l (latest-le places vs b n) in
+          record { above = λ a. absurd (omega arith); below = λ a. omega arith };
+      nexts = λ m a i. absurd (omega arith);
+    }
+
+-- a point is written and put at the head of its bucket
+pub chained-more : (vs : List Float) (ws : List ℕ) (places base count : ℕ) → Stored vs places base count → Chained vs ws places base count → (p : Vec3) → count < places
+    → (b : ℕ) → b ≡ bucketOf places p → b < places → Chained (placed vs count p) (linkedIn ws places count b) places base (count + 1)
+chained-more vs ws places base count h c p lt b e bl =
+    chained-next (placed vs count p) ws places base count (chained-still vs places base count h p lt ws count (omega arith) c) lt b
+    (e ∙ sym (ap (bucketOf places) (placed-at vs count p (omega (arith, h .room))))) bl
+
+-- ---- the cases of `number_of`
 
 -- what was found, by its case
 pub told : {f g : Found} (vs : List Float) (base count : ℕ) (p : Vec3) → f ≡ g → Sought vs base count p f → Sought vs base count p g

@@ -10,7 +10,7 @@ use Rattle.math.specs.declared.Vec3.{Vec3}
 use Rattle.trimesh.specs.Mesh.{samePoint}
 use Rattle.chain.specs.declared.Found.{Found}
 use Rattle.chain.specs.declared.Found.the-variants.{At, Missing}
-use Rattle.chain.specs.Points.{Clean, vertexAt, placed}
+use Rattle.stored.specs.Points.{Clean, vertexAt, placed}
 
 -- one coordinate's bits, their halves multiplied apart
 unfoldable pub spreadOf : ℕ → ℕ → ℕ → ℕ
@@ -28,16 +28,24 @@ unfoldable pub latest : ℕ → List Float → ℕ → ℕ → ℕ
 latest places vs b zero = zero
 latest places vs b (suc n) = cond (eqb (bucketOf places (vertexAt vs n)) b) (suc n) (latest places vs b n)
 
--- the work slice holds, for the `count` vertices: at b the latest vertex of the bucket b, and at places + m the latest before m of m's bucket
-pub record Chained (vs : List Float) (ws : List ℕ) (places base count : ℕ) : Type 0 where
+-- the vertices below `count` lie in the slice, and no two of those from `base` on are equal
+pub record Stored (vs : List Float) (places base count : ℕ) : Type 0 where
   pub room : 3 * places ≤ length vs
-  pub links : 2 * places ≤ length ws
   pub within : count ≤ places
   pub based : base ≤ count
-  pub heads : (b : ℕ) → b < places → getD ws b 0 ≡ latest places vs b count
-  pub nexts : (m : ℕ) → m < count → getD ws (places + m) 0 ≡ latest places vs (bucketOf places (vertexAt vs m)) m
   pub clean : (m : ℕ) → m < count → Clean (vertexAt vs m)
   pub fresh : (j m : ℕ) → base ≤ j → j < m → m < count → samePoint (vertexAt vs j) (vertexAt vs m) ≡ true → ⊥
+
+-- h is l as far as vertices from base on are concerned: both are l, or both lead to earlier ones
+pub record Agrees (base h l : ℕ) : Type 0 where
+  pub above : base < l → h ≡ l
+  pub below : l ≤ base → h ≤ base
+
+-- the work slice holds, for the vertices from `base` below n: at b the latest vertex of the bucket b, and at places + m the latest before m of m's bucket
+pub record Chained (vs : List Float) (ws : List ℕ) (places base n : ℕ) : Type 0 where
+  pub links : 2 * places ≤ length ws
+  pub heads : (b : ℕ) → b < places → Agrees base (getD ws b 0) (latest places vs b n)
+  pub nexts : (m : ℕ) → base ≤ m → m < n → Agrees base (getD ws (places + m) 0) (latest places vs (bucketOf places (vertexAt vs m)) m)
 
 -- the work slice with vertex n put at the head of the bucket b
 abbrev pub linkedIn : List ℕ → ℕ → ℕ → ℕ → List ℕ

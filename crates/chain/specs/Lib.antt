@@ -1,3 +1,2 @@
--- What the contracts of `chain` cite: the points in a slice, and the hash chains.
-pub mod Points
+-- What the contracts of `chain` cite.
 pub mod Hash

@@ -1,12 +1,9 @@
 // The hash chains in the work slice. They find the vertex that equals a point, as the `HashMap` of from_soup does.
 ghost use mathlib.Core.Path.{_≡_};
-ghost use mathlib.Core.Bool.{true};
 ghost use Prim.Native.Nat.{_+_, _*_, _<_, _≤_, _^_};
 ghost use lib.ListN.{length};
-ghost use Rattle.trimesh.specs.Mesh.{samePoint};
-ghost use Rattle.chain.specs.Points.{Clean, vertexAt, placed};
-ghost use Rattle.chain.specs.declared.Found.the-variants.{Missing};
-ghost use Rattle.chain.specs.Hash.{spreadOf, bucketOf, Chained, linkedIn, Sought, Placing};
+ghost use Rattle.stored.specs.Points.{Clean};
+ghost use Rattle.chain.specs.Hash.{spreadOf, bucketOf, Stored, Chained, linkedIn, Sought, Placing};
 use math::Vec3;
 
 // What a look-up finds: the number of a vertex, or none.
@@ -42,56 +39,6 @@ fn bucket_of(p: Vec3, places: usize) -> usize
     (sum as usize) * places / 4294967296
 }
 
-// Whether two points are equal as floats.
-fn equal(a: Vec3, b: Vec3) -> bool
-    ensures { λ r. ⌜ r ≡ samePoint a b ⌝ }
-{
-    if a.x == b.x {
-        if a.y == b.y {
-            return a.z == b.z;
-        }
-    }
-    false
-}
-
-// Vertex m.
-pub fn vertex(vertices: &[f64], m: usize) -> Vec3
-    requires { ⌜ 3 * m + 3 ≤ length (now vertices) ⌝ }
-    ensures { λ r. ⌜ r ≡ vertexAt (now (vertices .entry)) m ⌝ }
-{
-    let at = 3 * m;
-    Vec3 {
-        x: vertices[at],
-        y: vertices[at + 1],
-        z: vertices[at + 2],
-    }
-}
-
-// Writes a vertex.
-fn place(vertices: &mut [f64], m: usize, p: Vec3)
-    requires { ⌜ 3 * m + 3 ≤ length (now vertices) ⌝ }
-    ensures { λ _. ⌜ now (vertices .exit) ≡ placed (now (vertices .entry)) m p ⌝ }
-{
-    let at = 3 * m;
-    vertices[at] = p.x;
-    vertices[at + 1] = p.y;
-    vertices[at + 2] = p.z;
-}
-
-// Whether vertex m is one from `base` below `count` and equals p.
-pub fn is_at(vertices: &[f64], base: usize, count: usize, m: usize, p: Vec3) -> bool
-    requires { ⌜ 3 * count ≤ length (now vertices) ⌝ }
-    ensures { λ r. ⌜ (r ≡ true → (base ≤ m) × (m < count) × (samePoint (vertexAt (now (vertices .entry)) m) p ≡ true)) ⌝ }
-{
-    if m < base {
-        return false;
-    }
-    if count <= m {
-        return false;
-    }
-    equal(vertex(vertices, m), p)
-}
-
 // The first of the vertices from `base` below `count` that equals p. Vertices below `base` are of earlier parts.
 fn find(
     vertices: &[f64],
@@ -102,14 +49,14 @@ fn find(
     bucket: usize,
     p: Vec3,
 ) -> Found
-    requires { ⌜ Chained (now vertices) (now work) places base count ⌝ }
+    requires { ⌜ Stored (now vertices) places base count × Chained (now vertices) (now work) places base count ⌝ }
     requires { ⌜ (bucket ≡ bucketOf places p) × (bucket < places) × Clean p ⌝ }
     ensures { λ r. ⌜ Sought (now (vertices .entry)) base count p r ⌝ }
 {
     let mut k = wide(work[bucket]);
     while base < k {
         let m = k - 1;
-        if equal(vertex(vertices, m), p) {
+        if stored::equal(stored::vertex(vertices, m), p) {
             return Found::At(m);
         }
         k = wide(work[places + m]);
@@ -117,29 +64,36 @@ fn find(
     Found::Missing
 }
 
-// Writes vertex `count` and puts it at the head of its bucket.
-fn append(
-    vertices: &mut [f64],
-    work: &mut [u32],
-    places: usize,
-    count: usize,
-    bucket: usize,
-    p: Vec3,
-)
-    requires { ⌜ (3 * places ≤ length (now vertices)) × (2 * places ≤ length (now work)) ⌝ }
-    requires { ⌜ (count < places) × (bucket < places) × (places < 2 ^ 32) ⌝ }
-    ensures { λ _. ⌜ now (vertices .exit) ≡ placed (now (vertices .entry)) count p ⌝ }
-    ensures { λ _. ⌜ now (work .exit) ≡ linkedIn (now (work .entry)) places count bucket ⌝ }
+// Puts vertex m at the head of its bucket.
+fn link(work: &mut [u32], places: usize, m: usize, bucket: usize)
+    requires { ⌜ (2 * places ≤ length (now work)) × (m < places) × (bucket < places) × (places < 2 ^ 32) ⌝ }
+    ensures { λ _. ⌜ now (work .exit) ≡ linkedIn (now (work .entry)) places m bucket ⌝ }
 {
-    place(vertices, count, p);
     let head = work[bucket];
-    work[places + count] = head;
-    work[bucket] = (count + 1) as u32;
+    work[places + m] = head;
+    work[bucket] = (m + 1) as u32;
+}
+
+// Puts the vertices from `base` below `count` into their buckets. None of them is in one before.
+pub fn index(vertices: &[f64], work: &mut [u32], places: usize, base: usize, count: usize)
+    requires { ⌜ Stored (now vertices) places base count × (places < 2 ^ 32) × Chained (now vertices) (now work) places base base ⌝ }
+    ensures { λ _. ⌜ Chained (now (vertices .entry)) (now (work .exit)) places base count ⌝ }
+{
+    let mut m = base;
+    while m < count {
+        link(
+            work,
+            places,
+            m,
+            bucket_of(stored::vertex(vertices, m), places),
+        );
+        m += 1;
+    }
 }
 
 // The number of p: that of the first of the vertices from `base` below `count` that equals it; or `count`, with which it is
-// written; or `count + 1` where no place is left.
-fn place_of(
+// written; or `count + 1` where no place is left. All these vertices are in their buckets, and a new one is put there.
+pub fn number_of(
     vertices: &mut [f64],
     work: &mut [u32],
     places: usize,
@@ -147,7 +101,7 @@ fn place_of(
     count: usize,
     p: Vec3,
 ) -> usize
-    requires { ⌜ Chained (now vertices) (now work) places base count ⌝ }
+    requires { ⌜ Stored (now vertices) places base count × Chained (now vertices) (now work) places base count ⌝ }
     requires { ⌜ (0 < places) × (places < 2 ^ 32) × Clean p ⌝ }
     ensures { λ r. ⌜ Placing places base count p (now (vertices .entry)) (now (work .entry)) r (now (vertices .exit)) (now (work .exit)) ⌝ }
 {
@@ -157,51 +111,12 @@ fn place_of(
         Found::At(m) => m,
         Found::Missing => {
             if count < places {
-                append(vertices, work, places, count, bucket, p);
+                stored::place(vertices, count, p);
+                link(work, places, count, bucket);
                 count
             } else {
                 count + 1
             }
         }
     }
-}
-
-// The same for a point that equals none of them, with no search.
-fn add_new(
-    vertices: &mut [f64],
-    work: &mut [u32],
-    places: usize,
-    base: usize,
-    count: usize,
-    p: Vec3,
-) -> usize
-    requires { ⌜ Chained (now vertices) (now work) places base count ⌝ }
-    requires { ⌜ (0 < places) × (places < 2 ^ 32) × Clean p × Sought (now vertices) base count p Missing ⌝ }
-    ensures { λ r. ⌜ Placing places base count p (now (vertices .entry)) (now (work .entry)) r (now (vertices .exit)) (now (work .exit)) ⌝ }
-{
-    if count < places {
-        append(vertices, work, places, count, bucket_of(p, places), p);
-        return count;
-    }
-    count + 1
-}
-
-// The same, where `fresh` tells that p equals none of them.
-pub fn number_of(
-    vertices: &mut [f64],
-    work: &mut [u32],
-    places: usize,
-    base: usize,
-    count: usize,
-    fresh: bool,
-    p: Vec3,
-) -> usize
-    requires { ⌜ Chained (now vertices) (now work) places base count ⌝ }
-    requires { ⌜ (0 < places) × (places < 2 ^ 32) × Clean p × (fresh ≡ true → Sought (now vertices) base count p Missing) ⌝ }
-    ensures { λ r. ⌜ Placing places base count p (now (vertices .entry)) (now (work .entry)) r (now (vertices .exit)) (now (work .exit)) ⌝ }
-{
-    if fresh {
-        return add_new(vertices, work, places, base, count, p);
-    }
-    place_of(vertices, work, places, base, count, p)
 }

@@ -14,10 +14,6 @@ use Rattle.shape.specs.declared.OwnSystem.{OwnSystem}
 use Rattle.shape.specs.declared.TessellationOptions.{TessellationOptions}
 use Rattle.shape.specs.Drawing.{shapeCs, cylindrical, tooManySegments, itemFloats, badList, numbersBad, anglesBad, drawingRefusal}
 
--- the second test's result, from those of its calls
-pub list-test : {k : ℕ} {b : Bool} (shape : Shape) (n count : ℕ) → k ≡ itemFloats shape → b ≡ badList k n → (b || ltb 16 count) ≡ (badList (itemFloats shape) n || ltb 16 count)
-list-test shape n count e f = ap (λ (t : Bool). t || ltb 16 count) (f ∙ ap (λ (j : ℕ). badList j n) e)
-
 -- the fourth test's result
 pub angle-test : {cs : CoordSystem} {cyl b : Bool} (shape : Shape) (list : List Float) (own : OwnSystem) (default : CoordSystem) (degrees : Bool) (ops : List TransformOp)
     → cs ≡ shapeCs shape own default → cyl ≡ cylindrical cs → b ≡ anglesBad cyl shape list degrees ops → b ≡ anglesBad (cylindrical (shapeCs shape own default)) shape list degrees ops

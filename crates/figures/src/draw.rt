@@ -1,69 +1,22 @@
 // Runs tessellate and writes its answer.
-use crate::text;
+use lines::text;
 use mesh::TriMesh;
-use outcome::Tessellated;
 use shape::CoordSystem;
 use shape::OwnSystem;
 use shape::Shape;
 use shape::TessellationOptions;
 use transform::TransformOp;
 
-// "N vertices, M triangles", or the refusal.
-fn answer(t: Tessellated) -> TriMesh {
-    let why = t.refusal;
-    let number = refusal::number(why);
-    let m = t.mesh;
-    if 0 < number {
-        text::bytes(b"refusal ");
-        text::word(number);
-        return m;
-    }
-    text::count(m.vertices);
-    text::bytes(b" vertices, ");
-    text::count(m.triangles);
-    text::bytes(b" triangles");
-    m
-}
-
-// The shape in Cartesian coordinates under one operation, or none where count is 0.
-pub fn moved(
-    shape: Shape,
-    op: TransformOp,
-    count: usize,
-    vertices: &mut [f64],
-    triangles: &mut [u32],
-    work: &mut [u32],
-) -> TriMesh {
-    drawn(shape, 32, 16, op, count, vertices, triangles, work)
-}
-
-// The shape in Cartesian coordinates.
-pub fn draw(
-    shape: Shape,
-    segments: usize,
-    rings: usize,
-    vertices: &mut [f64],
-    triangles: &mut [u32],
-    work: &mut [u32],
-) -> TriMesh {
-    let none = TransformOp::Scale(1.0);
-    drawn(shape, segments, rings, none, 0, vertices, triangles, work)
-}
-
+// The shape in Cartesian coordinates under one operation, or none where count is 0. It writes the counts, or the refusal.
 fn drawn(
     shape: Shape,
-    segments: usize,
-    rings: usize,
+    options: TessellationOptions,
     op: TransformOp,
     count: usize,
     vertices: &mut [f64],
     triangles: &mut [u32],
-    work: &mut [u32],
 ) -> TriMesh {
-    let options = TessellationOptions {
-        segments: segments,
-        sphere_rings: rings,
-    };
+    let mut work = [0u32; 2052];
     let list = [0.0; 0];
     let t = tessellate::tessellate(
         shape,
@@ -76,7 +29,53 @@ fn drawn(
         count,
         vertices,
         triangles,
-        work,
+        &mut work,
     );
-    answer(t)
+    let why = t.refusal;
+    let m = t.mesh;
+    text::counts(refusal::number(why), m);
+    m
+}
+
+// The shape in the lent slices.
+pub fn draw(
+    shape: Shape,
+    segments: usize,
+    rings: usize,
+    vertices: &mut [f64],
+    triangles: &mut [u32],
+) -> TriMesh {
+    let options = TessellationOptions {
+        segments: segments,
+        sphere_rings: rings,
+    };
+    let none = TransformOp::Scale(1.0);
+    drawn(shape, options, none, 0, vertices, triangles)
+}
+
+// The counts of a shape under one operation, or none where count is 0, to the end of the line.
+// There is room for 1,026 vertices and 2,048 triangles: the sphere of 1,024 segments and 2 rings.
+fn counted(shape: Shape, options: TessellationOptions, op: TransformOp, count: usize) {
+    let mut vertices = [0.0; 3078];
+    let mut triangles = [0u32; 6144];
+    drawn(shape, options, op, count, &mut vertices, &mut triangles);
+    text::bytes(b"\n");
+}
+
+// The counts of a shape.
+pub fn counts(shape: Shape, segments: usize, rings: usize) {
+    let options = TessellationOptions {
+        segments: segments,
+        sphere_rings: rings,
+    };
+    counted(shape, options, TransformOp::Scale(1.0), 0);
+}
+
+// The counts of a shape under one operation.
+pub fn moved(shape: Shape, op: TransformOp) {
+    let options = TessellationOptions {
+        segments: 32,
+        sphere_rings: 16,
+    };
+    counted(shape, options, op, 1);
 }

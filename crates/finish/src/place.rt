@@ -21,7 +21,7 @@ fn move_mesh(counts: TriMesh, vertices: &mut [f64], triangles: &mut [u32], a: Ma
     let n = counts.vertices;
     let k = counts.triangles;
     moves::move_all(vertices, n, a);
-    if matrix::determinant(a) < 0.0 {
+    if mapping::determinant(a) < 0.0 {
         writes::turn_all(triangles, k);
         return;
     }

@@ -33,7 +33,7 @@ fn weld_at(
     let a = vertex(soup, 3 * i);
     let b = vertex(soup, 3 * i + 1);
     let c = vertex(soup, 3 * i + 2);
-    weld::weld_triangle(vertices, triangles, work, w, a, b, c)
+    welding::weld_triangle(vertices, triangles, work, w, a, b, c)
 }
 
 // Welds the whole triangles of a soup.

@@ -43,3 +43,8 @@ module _ (flip : Bool) (f : ℕ → ℕ → Vec3) where
   pub grid-more : (i nv : ℕ) (h k l : Held) → Runs (grid i nv flip f) h k → Runs (row nv flip f i) k l → Runs (grid (i + 1) nv flip f) h l
   unfolding grid
   grid-more i nv h k l R Q = runs-as (sym (upto-more i (row nv flip f))) (runs-then (grid i nv flip f) (row nv flip f i) h k l R Q)
+
+  -- one more cell of a grid of one column
+  pub column-more : (i : ℕ) (a b c d : Vec3) (h k l : Held) → a ≡ f i 0 → b ≡ f (i + 1) 0 → c ≡ f (i + 1) 1 → d ≡ f i 1
+      → Runs (grid i 1 flip f) h k → Runs (turned flip a b c d) k l → Runs (grid (i + 1) 1 flip f) h l
+  column-more i a b c d h k l p q r s R Q = grid-more i 1 h k l R (row-more i 0 a b c d k k l p q r s (row-none i k (R .ready)) Q)

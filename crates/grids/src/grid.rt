@@ -73,7 +73,8 @@ fn weld_row(
 {
     let mut st = w;
     let mut a = surfaces::surface_point(s, corners, rows, cols, i, 0);
-    let mut b = surfaces::surface_point(s, corners, rows, cols, i + 1, 0);
+    let first = surfaces::surface_point(s, corners, rows, cols, i + 1, 0);
+    let mut b = first;
     let mut na = numbers[0];
     let mut nb = guesses::same_or(b, a, na, w.count);
     let mut last = nb;
@@ -82,8 +83,16 @@ fn weld_row(
         let d = surfaces::surface_point(s, corners, rows, cols, i, j + 1);
         let c = surfaces::surface_point(s, corners, rows, cols, i + 1, j + 1);
         let nd = guesses::same_or(d, a, na, numbers[j + 1]);
-        let beside = guesses::same_or(c, d, nd, guesses::onward(last, nb, st.count));
-        let nc = guesses::same_or(c, b, nb, beside);
+        let nc = guesses::last_corner(
+            c,
+            b,
+            nb,
+            d,
+            nd,
+            first,
+            numbers[0],
+            guesses::onward(last, nb, st.count),
+        );
         let q = weld_cell(
             vertices,
             triangles,
@@ -112,8 +121,63 @@ fn weld_row(
     st
 }
 
-// Soup::grid over a surface. `numbers` is for guesses at the numbers of a row's points: what it holds before and after does not matter.
-pub fn weld_grid(
+// Soup::grid with one column over a surface. The last two points of a cell are the first two of the next.
+fn weld_column(
+    vertices: &mut [f64],
+    triangles: &mut [u32],
+    work: &mut [u32],
+    w: Welder,
+    s: Surface,
+    corners: &[f64],
+    rows: &[f64],
+    cols: &[f64],
+    nu: usize,
+    flip: bool,
+) -> Welder
+    requires { ⌜ Ready (held w (now vertices) (now triangles) (now work)) ⌝ }
+    requires { ⌜ (nu ≤ 1024) × Within (now corners) s nu 1 × Tabled s (now rows) (now cols) nu 1 ⌝ }
+    ensures { λ r. ⌜ Runs (Grid.grid nu 1 flip (surfaceAt (now (corners .entry)) s))
+        (held w (now (vertices .entry)) (now (triangles .entry)) (now (work .entry)))
+        (held r (now (vertices .exit)) (now (triangles .exit)) (now (work .exit))) ⌝ }
+{
+    let mut st = w;
+    let mut a = surfaces::surface_point(s, corners, rows, cols, 0, 0);
+    let mut d = surfaces::surface_point(s, corners, rows, cols, 0, 1);
+    let mut na = w.count;
+    let mut nd = w.count;
+    let mut i = 0;
+    while i < nu {
+        let b = surfaces::surface_point(s, corners, rows, cols, i + 1, 0);
+        let c = surfaces::surface_point(s, corners, rows, cols, i + 1, 1);
+        let nb = guesses::same_or(b, a, na, st.count);
+        let nc = guesses::same_or(c, d, nd, st.count);
+        let q = weld_cell(
+            vertices,
+            triangles,
+            work,
+            st,
+            flip,
+            a,
+            b,
+            c,
+            d,
+            na,
+            nb,
+            nc,
+            nd,
+        );
+        st = q.st;
+        a = b;
+        d = c;
+        na = q.b;
+        nd = q.c;
+        i += 1;
+    }
+    st
+}
+
+// Soup::grid over a surface, row by row. `numbers` is for guesses at the numbers of a row's points.
+fn weld_rows(
     vertices: &mut [f64],
     triangles: &mut [u32],
     work: &mut [u32],
@@ -153,4 +217,55 @@ pub fn weld_grid(
         i += 1;
     }
     st
+}
+
+// Soup::grid over a surface. `numbers` is for guesses at the numbers of a row's points: what it holds before and after does not matter.
+pub fn weld_grid(
+    vertices: &mut [f64],
+    triangles: &mut [u32],
+    work: &mut [u32],
+    w: Welder,
+    s: Surface,
+    corners: &[f64],
+    rows: &[f64],
+    cols: &[f64],
+    numbers: &mut [usize],
+    nu: usize,
+    nv: usize,
+    flip: bool,
+) -> Welder
+    requires { ⌜ Ready (held w (now vertices) (now triangles) (now work)) ⌝ }
+    requires { ⌜ (nu ≤ 1024) × (nv ≤ 1024) × (nv < length (now numbers)) × Within (now corners) s nu nv × Tabled s (now rows) (now cols) nu nv ⌝ }
+    ensures { λ r. ⌜ Runs (Grid.grid nu nv flip (surfaceAt (now (corners .entry)) s))
+        (held w (now (vertices .entry)) (now (triangles .entry)) (now (work .entry)))
+        (held r (now (vertices .exit)) (now (triangles .exit)) (now (work .exit))) ⌝ }
+{
+    if nv == 1 {
+        return weld_column(
+            vertices,
+            triangles,
+            work,
+            w,
+            s,
+            corners,
+            rows,
+            cols,
+            nu,
+            flip,
+        );
+    }
+    weld_rows(
+        vertices,
+        triangles,
+        work,
+        w,
+        s,
+        corners,
+        rows,
+        cols,
+        numbers,
+        nu,
+        nv,
+        flip,
+    )
 }

@@ -18,6 +18,28 @@ pub fn same_or(p: Vec3, q: Vec3, n: usize, other: usize) -> usize
     other
 }
 
+// The guess at the number of c, the last corner of a cell: that of the cell's b or d, or of the row's first point, where c equals it, or else
+// another guess. The last point of a row round an axis equals the first.
+pub fn last_corner(
+    c: Vec3,
+    b: Vec3,
+    nb: usize,
+    d: Vec3,
+    nd: usize,
+    first: Vec3,
+    nfirst: usize,
+    other: usize,
+) -> usize
+    ensures { λ r. ⌜ r ≡ cond (samePoint c b) nb (cond (samePoint c d) nd (cond (samePoint c first) nfirst other)) ⌝ }
+{
+    same_or(
+        c,
+        b,
+        nb,
+        same_or(c, d, nd, same_or(c, first, nfirst, other)),
+    )
+}
+
 // The guess at a point's number where those of the two points before it are `last` and n: as far on from n. Points of an earlier
 // grid were numbered there at even distances.
 pub fn onward(last: usize, n: usize, none: usize) -> usize {

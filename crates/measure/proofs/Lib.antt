@@ -1,2 +1,2 @@
--- Laws of the sums and the box, for the proofs of `measure` and of its callers.
+-- Laws of the sums, for the proofs of `measure` and of its callers.
 pub mod Terms

@@ -1,24 +1,19 @@
--- The loops of the measures: sums over the corners of triangles, and the box of vertices. Assumes nothing.
+-- The loops of the measures: sums over the corners of triangles. Assumes nothing.
 use mathlib.Core.Path.{_≡_, refl, sym, ap, _∙_}
-use mathlib.Core.Bool.{Bool, true, false, not, true≢false}
-use mathlib.Core.List.{List, [], _∷_, map}
-use Prim.Native.Nat.{ℕ, zero, suc, _+_, _*_, _≤_, _<_}
+use mathlib.Core.List.{List}
+use Prim.Native.Nat.{ℕ, _+_, _*_, _≤_, _<_}
 use native.Mathlib.Omega.{arith}
 use lib.IntN.{pos}
 use lib.ListN.{length, take, drop, getD, length-map}
 use lib.Seq.{length-take-le}
-use lib.Dec.{T}
-use lib.Ieee.{Float, nan, inf, fin, binary64, add, div, ofBits, ofInt, ne, eq, isNan, toBits}
-use Rattle.ieee.specs.Same.{eq-refl}
+use lib.Ieee.{Float, binary64, add, div, ofBits, ofInt}
 use Rattle.math.specs.declared.Vec3.{Vec3}
-use Rattle.math.specs.declared.BoundingBox.{BoundingBox}
 use Rattle.math.specs.Vec.{vSub, cross, dot, norm}
-use Rattle.math.specs.Box.{include}
 use Rattle.balance.specs.Soup.{Tri, mapTri}
 use Rattle.balance.specs.Buffer.{tris}
 use Rattle.trimesh.specs.Mesh.{Mesh}
 use Rattle.trimesh.specs.SliceLaws.{length-tris}
-use Rattle.trimesh.specs.Measures.{sumOf, volumeTerm, areaTerm, including, triangleSoup, signedVolume}
+use Rattle.trimesh.specs.Measures.{sumOf, volumeTerm, areaTerm, triangleSoup, signedVolume}
 use Rattle.triples.specs.Triples.{tripleAt, vertexAt, cornersAt, cornersOf, CornersWithin, AllWithin}
 use Rattle.slices.proofs.Next.{Next, next-map, drop-end}
 use Rattle.triples.proofs.NextTriples.{next-counted}
@@ -72,37 +67,3 @@ volume-is m v e = (λ j. div binary64 (e j) (six j))
   where
     six : ofBits binary64 0x4018000000000000 ≡ ofInt binary64 (pos 6)
     six = unfold ofBits ofInt in refl
-
--- ---- the box
-module _ (l : List Vec3) where
-  pub include-turn : (i : ℕ) (p q : Vec3) (b c total : BoundingBox) → Next l i p → q ≡ p → c ≡ include b q → including b (drop i l) ≡ total → including c (drop (i + 1) l) ≡ total
-  unfolding including
-  include-turn i p q b c total h e k s =
-      ap {B = BoundingBox} (λ (y : BoundingBox). including y (drop (i + 1) l)) (k ∙ ap {B = BoundingBox} (include b) e)
-      ∙ sym (ap {B = BoundingBox} (including b) h)
-      ∙ s
-
-  pub include-ended : (i : ℕ) (b total : BoundingBox) → length l ≤ i → including b (drop i l) ≡ total → b ≡ total
-  unfolding including
-  include-ended i b total h p = sym (ap {B = BoundingBox} (including b) (drop-end l i h)) ∙ p
-
--- ---- bits
-differs : (x : Float) → T (not (isNan x)) → ne x x ≡ false
-unfolding ne
-differs x h = go (eq x x) (eq-refl x h)
-  where
-    go : (b : Bool) → T b → not b ≡ false
-    go true t = refl
-    go false t = absurd t
-
-pub nan-bits : (x : Float) → ne x x ≡ true → 9221120237041090560 ≡ toBits binary64 x
-unfolding toBits isNan
-nan-bits nan h = refl
-nan-bits (inf s) h = absurd (true≢false (sym h ∙ differs (inf s) tt))
-nan-bits (fin s m e) h = absurd (true≢false (sym h ∙ differs (fin s m e) tt))
-
-pub no-nan : (x : Float) → ne x x ≡ false → T (not (isNan x))
-unfolding ne eq isNan
-no-nan nan h = absurd (true≢false h)
-no-nan (inf s) h = tt
-no-nan (fin s m e) h = tt

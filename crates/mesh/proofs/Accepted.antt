@@ -16,7 +16,8 @@ use Rattle.refusal.specs.declared.Refusal.the-variants.{Accepted, NotFinite, An
 use Rattle.slices.specs.Every.{wholePlaces, every}
 use Rattle.meshcheck.specs.State.{State, meshOf, badMesh, notFinite, checkOf, isAccepted, Sound}
 use Rattle.affine.specs.Affine.{FiniteVertices}
-use Rattle.meshcheck.specs.Refusals.{noRoom, appendRefusal, transformed, transformRefusal}
+use Rattle.appendcheck.specs.Append.{noRoom, appendRefusal}
+use Rattle.movecheck.specs.Transform.{transformed, transformRefusal}
 use Rattle.meshcheck.proofs.Sound.{sound, finite-vertices, places-three, places-limit, neither}
 use Rattle.meshcheck.proofs.Stored.{appended-vertices, appended-triangles}
 

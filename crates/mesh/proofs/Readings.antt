@@ -25,7 +25,7 @@ use Rattle.triples.specs.Triples.{tripleAt, vertexAt, cornersOf, AllWithin}
 use Rattle.mesh.specs.Measures.{measureOf, boundingBoxOf}
 use Rattle.slices.proofs.Next.{getD-next}
 use Rattle.triples.proofs.NextTriples.{next-counted, next-points}
-use Rattle.measure.specs.ZeroBox.{zeroBox}
+use Rattle.extents.specs.ZeroBox.{zeroBox}
 
 -- ---- the corners
 map-agree : {A B : Type 0} (f g : A → B) (d : A) (l : List A) → ((i : ℕ) → i < length l → f (getD l i d) ≡ g (getD l i d)) → map f l ≡ map g l

@@ -6,7 +6,8 @@ use lib.Dec.{eqb}
 use Rattle.transform.specs.declared.TransformOp.{TransformOp}
 use Rattle.trimesh.specs.Mesh.{append, flip}
 use Rattle.meshcheck.specs.State.{State, meshOf, stored, checkOf}
-use Rattle.meshcheck.specs.Refusals.{appendRefusal, transformed, transformRefusal}
+use Rattle.appendcheck.specs.Append.{appendRefusal}
+use Rattle.movecheck.specs.Transform.{transformed, transformRefusal}
 use Rattle.mesh.specs.Outcome.{Outcome, edited}
 
 -- `append` of the second mesh to the first

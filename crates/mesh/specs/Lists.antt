@@ -19,7 +19,8 @@ use Rattle.refusal.specs.declared.Refusal.the-variants.{Accepted, NotFinite, An
 use Rattle.meshcheck.specs.State.{State, meshOf, stored, checkOf, isAccepted}
 use Rattle.mesh.specs.Outcome.{Outcome, edited}
 use Rattle.meshcheck.specs.StateLaws.{mesh-stored}
-use Rattle.meshcheck.specs.Refusals.{appendRefusal, transformed, transformRefusal}
+use Rattle.appendcheck.specs.Append.{appendRefusal}
+use Rattle.movecheck.specs.Transform.{transformed, transformRefusal}
 use Rattle.mesh.specs.Edits.{appendOf, flipOf, transformOf}
 
 -- ---- the statement

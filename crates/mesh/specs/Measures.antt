@@ -3,7 +3,7 @@ use mathlib.Core.Bool.{cond}
 use lib.Ieee.{Float, binary64, toBits}
 use Rattle.trimesh.specs.Mesh.{Mesh}
 use Rattle.trimesh.specs.Measures.{signedVolume, area, enclosedVolume, boundingBox}
-use Rattle.measure.specs.ZeroBox.{zeroBox}
+use Rattle.extents.specs.ZeroBox.{zeroBox}
 use Rattle.mesh.specs.declared.Measured.{Measured}
 use Rattle.mesh.specs.declared.Boxed.{Boxed}
 use Rattle.meshcheck.specs.State.{State, meshOf, checkOf, isAccepted}

@@ -23,7 +23,7 @@ pub fn append(
     let k = mesh.triangles;
     let more_n = other.vertices;
     let more_k = other.triangles;
-    let refusal = meshcheck::append_refusal(
+    let refusal = appendcheck::append_refusal(
         mesh,
         vertices,
         triangles,
@@ -71,7 +71,7 @@ pub fn transform(
 {
     let n = mesh.vertices;
     let k = mesh.triangles;
-    let refusal = meshcheck::transform_refusal(mesh, vertices, triangles, ops, op_count, degrees);
+    let refusal = movecheck::transform_refusal(mesh, vertices, triangles, ops, op_count, degrees);
     if !meshcheck::accepted(refusal) {
         return Edited { refusal, mesh };
     }
@@ -80,7 +80,7 @@ pub fn transform(
     }
     let a = transform::fold(ops, op_count, degrees);
     moves::move_finite(vertices, n, a);
-    if matrix::determinant(a) < 0.0 {
+    if mapping::determinant(a) < 0.0 {
         writes::turn_all(triangles, k);
         return Edited { refusal, mesh };
     }

@@ -63,11 +63,11 @@ pub fn bounding_box(mesh: TriMesh, vertices: &[f64], triangles: &[u32]) -> Boxed
     if !meshcheck::accepted(refusal) {
         return Boxed {
             refusal,
-            bounds: measure::zero_box(),
+            bounds: extents::zero_box(),
         };
     }
     Boxed {
         refusal,
-        bounds: measure::plus_zero(measure::box_of(vertices, n)),
+        bounds: extents::plus_zero(extents::box_of(vertices, n)),
     }
 }

@@ -1,4 +1,3 @@
--- What the contracts of `meshcheck` cite: a mesh in lent slices, and the refusals.
+-- What the contracts of `meshcheck` cite: a mesh in lent slices, and the checks 8 and 1.
 pub mod State
 pub mod StateLaws
-pub mod Refusals

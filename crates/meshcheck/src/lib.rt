@@ -1,12 +1,11 @@
 // A mesh in lent slices: three floats a vertex, three numbers a triangle, and the two counts by value.
-// Which refusal a call on it answers.
+// The checks that every call on it makes: refusals 8 and 1.
 mod checks;
 mod refusals;
 
+pub use checks::bad_mesh;
 pub use refusals::accepted;
-pub use refusals::append_refusal;
 pub use refusals::check;
-pub use refusals::transform_refusal;
 
 // The counts of a mesh.
 pub struct TriMesh {

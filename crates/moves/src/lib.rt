@@ -21,7 +21,7 @@ fn stay_finite_divided(vertices: &[f64], n: usize, a: Mat4) -> bool
     let mut ok = true;
     let mut i = 0;
     while i < n {
-        ok = ok & math::is_finite(matrix::transform_point(a, vertex(vertices, i)));
+        ok = ok & math::is_finite(mapping::transform_point(a, vertex(vertices, i)));
         i += 1;
     }
     ok
@@ -34,7 +34,7 @@ fn move_divided(vertices: &mut [f64], n: usize, a: Mat4)
 {
     let mut i = 0;
     while i < n {
-        let p = matrix::transform_point(a, vertex(vertices, i));
+        let p = mapping::transform_point(a, vertex(vertices, i));
         put_vertex(vertices, i, p);
         i += 1;
     }

@@ -1,9 +1,8 @@
-// Checks 4, 1 and 2 of document 01 on the operations: their count, their numbers, their angles.
+// Checks 4 and 2 of document 01 on the operations: their count, their angles.
 ghost use mathlib.Core.Path.{_≡_};
 ghost use lib.ListN.{take};
 ghost use Rattle.transform.specs.Angle as Angle;
 ghost use Rattle.transform.specs.Checks as Checks;
-use matrix::Row;
 use transform::Radians;
 use transform::TransformOp;
 
@@ -21,31 +20,6 @@ pub fn op_count_within(count: usize) -> bool
     count <= 16
 }
 
-fn row_finite(r: Row) -> bool
-    ensures { λ w. ⌜ w ≡ Checks.rowFinite r ⌝ }
-{
-    ieee::is_finite(r.a) & ieee::is_finite(r.b) & ieee::is_finite(r.c) & ieee::is_finite(r.d)
-}
-
-// Whether every number of an operation is finite.
-pub fn op_finite(op: TransformOp) -> bool
-    ensures { λ w. ⌜ w ≡ Checks.opFinite op ⌝ }
-{
-    match op {
-        TransformOp::Translate(v) => math::is_finite(v),
-        TransformOp::RotateOrigin(v, a) => math::is_finite(v) & ieee::is_finite(a),
-        TransformOp::RotateX(a) => ieee::is_finite(a),
-        TransformOp::RotateY(a) => ieee::is_finite(a),
-        TransformOp::RotateZ(a) => ieee::is_finite(a),
-        TransformOp::Scale(s) => ieee::is_finite(s),
-        TransformOp::Scale3(v) => math::is_finite(v),
-        TransformOp::Matrix(p, q, r, s) => row_finite(p)
-            & row_finite(q)
-            & row_finite(r)
-            & row_finite(s),
-    }
-}
-
 // Whether the rotation angle of an operation is within 1000, in radians. True of an operation without one.
 pub fn op_angle_within(op: TransformOp, degrees: bool) -> bool
     ensures { λ w. ⌜ w ≡ Checks.opAngleWithin degrees op ⌝ }
@@ -60,21 +34,6 @@ pub fn op_angle_within(op: TransformOp, degrees: bool) -> bool
         TransformOp::Scale3(_) => true,
         TransformOp::Matrix(_, _, _, _) => true,
     }
-}
-
-// Whether every number of the first `count` operations is finite.
-pub fn ops_finite(ops: [TransformOp; 16], count: usize) -> bool
-    ensures { λ w. ⌜ w ≡ Checks.opsFinite (take count ops) ⌝ }
-{
-    let n = transform::at_most_16(count);
-    let mut good = true;
-    let mut i = 0;
-    while i < n {
-        let op = ops[i];
-        good = good & op_finite(op);
-        i += 1;
-    }
-    good
 }
 
 // Whether every rotation angle of the first `count` operations is within 1000, in radians.

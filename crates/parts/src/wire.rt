@@ -19,7 +19,7 @@ fn wire_point(list: &[f64], i: usize, cylindrical: bool) -> Vec3
     requires { ⌜ 3 * i + 3 ≤ length (now list) ⌝ }
     ensures { λ r. ⌜ r ≡ wirePoint cylindrical (now (list .entry)) i ⌝ }
 {
-    points::to_cartesian(point_at(list, i), cylindrical)
+    around::to_cartesian(point_at(list, i), cylindrical)
 }
 
 // The tube from point i to the next is a part.

@@ -8,16 +8,17 @@ use lib.ListN.{length}
 use lib.Ieee.{Float}
 use Rattle.math.specs.declared.Vec3.{Vec3}
 use Rattle.trimesh.specs.Mesh.{Mesh, finiteV, plusZeroV, weldTriangle, weldSoup, everyFinite}
-use Rattle.chain.specs.Points.{Clean}
+use Rattle.stored.specs.Points.{Clean}
 use Rattle.chain.specs.Hash.{FirstAt}
 use Rattle.chain.proofs.Chains.{not-both, first-at}
 use Rattle.weld.specs.declared.Welder.{Welder}
-use Rattle.weld.specs.declared.Welded.{Welded}
+use Rattle.welding.specs.declared.Welded.{Welded}
 use Rattle.weld.specs.Rep.{Held, held, Linked, Ready, Rep, Runs}
-use Rattle.weld.specs.Steps.{unfinite, weldPoints, PointRuns, TriangleRuns, PointsRun}
+use Rattle.weld.specs.States.{unfinite}
+use Rattle.welding.specs.Steps.{weldPoints, PointRuns, TriangleRuns, PointsRun}
 use Rattle.weld.proofs.Places.{places-limit}
-use Rattle.weld.proofs.Point.{point-at, point-known}
-use Rattle.weld.proofs.Triangle.{and-false, linked-moved, points-run}
+use Rattle.welding.proofs.Point.{point-at, point-known}
+use Rattle.welding.proofs.Triangle.{and-false, linked-moved, points-run}
 use Rattle.quads.specs.Quads.{Seen, QuadRuns, LastRuns}
 
 -- ---- the triangles a, b, c and a, c, d
@@ -45,7 +46,7 @@ pub quad-stops : (w : Welder) (vs : List Float) (ts ws : List ℕ) (a b c d : Ve
 unfolding everyFinite
 quad-stops w vs ts ws a b c d R n =
     record {
-      ready = record { linked = record { chained = R .linked .chained; places = R .linked .places; rows = R .linked .rows }; faces = R .faces };
+      ready = record { linked = record { stored = R .linked .stored; chained = R .linked .chained; places = R .linked .places; rows = R .linked .rows }; faces = R .faces };
       vlong = refl;
       tlong = refl;
       wlong = refl;
@@ -75,11 +76,11 @@ quad-runs a b c d a′ b′ c′ d′ h k f ea eb ec ed P =
 
 -- a number that was seen is a 32-bit number
 pub seen-small : (w : Welder) (vs : List Float) (ws : List ℕ) (p : Vec3) (m : ℕ) → Linked w vs ws → Seen vs w p m → m < 2 ^ 32
-seen-small w vs ws p m L s = omega (arith, s .high, L .places, places-limit vs, L .chained .within)
+seen-small w vs ws p m L s = omega (arith, s .high, L .places, places-limit vs, L .stored .within)
 
 module _ (w : Welder) (vs : List Float) (ts ws : List ℕ) (R : Ready (held w vs ts ws)) (e : w .room ≡ true) where
   seen-first : (p : Vec3) (m : ℕ) → Clean p → Seen vs w p m → FirstAt vs (w .base) (w .count) p m
-  seen-first p m cp s = first-at vs ws (w .places) (w .base) (w .count) (R .linked .chained) p cp m (s .low) (s .high) (s .equal)
+  seen-first p m cp s = first-at vs (w .places) (w .base) (w .count) (R .linked .stored) p cp m (s .low) (s .high) (s .equal)
 
   pub last-runs : (c : Vec3) (na nb nd : ℕ) (t : Welded) (vs′ : List Float) (ws′ : List ℕ) (u : Welder) (ts₁ : List ℕ) (v : Welder) (ts₂ : List ℕ)
       → PointRuns c w vs ws t vs′ ws′ → TriangleRuns na nb (t .number) (t .st) ts u ts₁ → TriangleRuns na (t .number) nd u ts₁ v ts₂

@@ -7,10 +7,10 @@ use lib.ListN.{length}
 use lib.Ieee.{Float}
 use Rattle.math.specs.declared.Vec3.{Vec3}
 use Rattle.trimesh.specs.Mesh.{Mesh, samePoint}
-use Rattle.chain.specs.Points.{Clean, vertexAt}
+use Rattle.stored.specs.Points.{Clean, vertexAt}
 use Rattle.weld.specs.declared.Welder.{Welder}
 use Rattle.weld.specs.Rep.{Held, Ready, Rep}
-use Rattle.weld.specs.Steps.{weldPoints}
+use Rattle.welding.specs.Steps.{weldPoints}
 
 -- vertex m is one of this part and equals p
 pub record Seen (vs : List Float) (w : Welder) (p : Vec3) (m : ℕ) : Type 0 where

@@ -3,7 +3,7 @@ ghost use mathlib.Core.Path.{_≡_};
 ghost use mathlib.Core.Bool.{true};
 ghost use Prim.Native.Nat.{_*_, _≤_, _<_, _^_};
 ghost use lib.ListN.{length};
-ghost use Rattle.chain.specs.Points.{Clean};
+ghost use Rattle.stored.specs.Points.{Clean};
 ghost use Rattle.weld.specs.Rep.{held, Ready};
 ghost use Rattle.quads.specs.Quads.{Seen, QuadRuns, LastRuns};
 use crate::Quad;
@@ -54,9 +54,9 @@ fn are_at(
     requires { ⌜ 3 * w .count ≤ length (now vertices) ⌝ }
     ensures { λ r. ⌜ (r ≡ true → Seen (now (vertices .entry)) w a na × Seen (now (vertices .entry)) w b nb × Seen (now (vertices .entry)) w d nd) ⌝ }
 {
-    if chain::is_at(vertices, w.base, w.count, na, a) {
-        if chain::is_at(vertices, w.base, w.count, nb, b) {
-            return chain::is_at(vertices, w.base, w.count, nd, d);
+    if stored::is_at(vertices, w.base, w.count, na, a) {
+        if stored::is_at(vertices, w.base, w.count, nb, b) {
+            return stored::is_at(vertices, w.base, w.count, nd, d);
         }
     }
     false
@@ -80,11 +80,11 @@ fn weld_last(
         (held w (now (vertices .entry)) (now (triangles .entry)) (now (work .entry)))
         (held (r .st) (now (vertices .exit)) (now (triangles .exit)) (now (work .exit))) ⌝ }
 {
-    let t = weld::weld_point(vertices, work, w, c, guess);
+    let t = welding::weld_point(vertices, work, w, c, guess);
     let nc = t.number;
     let st = t.st;
-    let u = weld::add_triangle(triangles, st, na, nb, nc);
-    let v = weld::add_triangle(triangles, u, na, nc, nd);
+    let u = welding::add_triangle(triangles, st, na, nb, nc);
+    let v = welding::add_triangle(triangles, u, na, nc, nd);
     Quad {
         st: v,
         a: na,
@@ -115,16 +115,16 @@ fn weld_both(
         (held w (now (vertices .entry)) (now (triangles .entry)) (now (work .entry)))
         (held (r .st) (now (vertices .exit)) (now (triangles .exit)) (now (work .exit))) ⌝ }
 {
-    let pa = weld::weld_point(vertices, work, w, a, na);
+    let pa = welding::weld_point(vertices, work, w, a, na);
     let sa = pa.st;
-    let pb = weld::weld_point(vertices, work, sa, b, nb);
+    let pb = welding::weld_point(vertices, work, sa, b, nb);
     let sb = pb.st;
-    let pc = weld::weld_point(vertices, work, sb, c, nc);
+    let pc = welding::weld_point(vertices, work, sb, c, nc);
     let sc = pc.st;
-    let u = weld::add_triangle(triangles, sc, pa.number, pb.number, pc.number);
-    let pd = weld::weld_point(vertices, work, u, d, nd);
+    let u = welding::add_triangle(triangles, sc, pa.number, pb.number, pc.number);
+    let pd = welding::weld_point(vertices, work, u, d, nd);
     let sd = pd.st;
-    let v = weld::add_triangle(triangles, sd, pa.number, pc.number, pd.number);
+    let v = welding::add_triangle(triangles, sd, pa.number, pc.number, pd.number);
     Quad {
         st: v,
         a: pa.number,

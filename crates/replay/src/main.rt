@@ -1,10 +1,6 @@
 // Reads a case file from standard input, runs the library and writes the result file to standard output (tests/README.md).
 // The arrays have the largest sizes that a case may lend. A case that asks for more, or is cut off, ends the run.
-mod calls;
-mod input;
-mod output;
 mod solid;
-mod steps;
 mod turns;
 
 fn main() {
@@ -14,14 +10,5 @@ fn main() {
     let mut tb = [0u32; 393216];
     let mut work = [0u32; 131072];
     let mut list = [0.0; 4096];
-    let mut buf = [0u8; 65536];
-    turns::run(
-        &mut va,
-        &mut ta,
-        &mut vb,
-        &mut tb,
-        &mut work,
-        &mut list,
-        &mut buf,
-    );
+    turns::run(&mut va, &mut ta, &mut vb, &mut tb, &mut work, &mut list);
 }

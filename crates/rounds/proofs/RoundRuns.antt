@@ -21,22 +21,23 @@ use Rattle.soups.specs.Cylinder.{frame1, frame2, tube, cylinder}
 use Rattle.soups.specs.Surface.{mapped, surfaceAt}
 use Rattle.soups.proofs.SurfaceGrids.{sphere-surface, tube-chart}
 
-pub sphere-within : (segments rings nt np : ℕ) → segments ≤ 1024 → rings ≤ 1024 → nt ≡ max rings 2 → np ≡ max segments 3 → (nt ≤ 1024) × (np ≤ 1024) × SphereWithin nt np nt
-sphere-within segments rings nt np s r p q =
-    (omega (arith, p), omega (arith, q), record { few = omega (arith, p); last = omega arith; some = omega (arith, q); nfew = omega (arith, q) })
+pub sphere-within : (nt np : ℕ) → nt ≤ 1024 → 3 ≤ np → np ≤ 1024 → SphereWithin nt np nt
+sphere-within nt np t p q = record { few = t; last = omega arith; some = omega (arith, p); nfew = q }
 
 module _ (c : Vec3) (r : Float) (segments rings : ℕ) (flip : Bool) where
   pub sphere-none : (h : Held) → Ready h → le r plusZero ≡ true → Runs (sphere c r segments rings flip) h h
   unfolding sphere
   sphere-none h R e = runs-as (ap (λ (b : Bool). cond b [] (grid (max rings 2) (max segments 3) flip (spherePoint c r (max rings 2) (max segments 3)))) (sym e)) (runs-none h R)
 
-  pub sphere-runs : (p : List Float) (nt np : ℕ) (h k : Held) → le r plusZero ≡ false → nt ≡ max rings 2 → np ≡ max segments 3
-      → Runs (grid nt np flip (surfaceAt p (Sphere c r nt np))) h k → Runs (sphere c r segments rings flip) h k
+  pub grid-runs : (p : List Float) (nt np : ℕ) (h k : Held) → Runs (grid nt np flip (surfaceAt p (Sphere c r nt np))) h k → Runs (grid nt np flip (spherePoint c r nt np)) h k
+  grid-runs p nt np h k R = runs-as (sym (sphere-surface p c r nt np flip)) R
+
+  pub sphere-runs : (nt np : ℕ) (h k : Held) → le r plusZero ≡ false → nt ≡ max rings 2 → np ≡ max segments 3
+      → Runs (grid nt np flip (spherePoint c r nt np)) h k → Runs (sphere c r segments rings flip) h k
   unfolding sphere
-  sphere-runs p nt np h k e a b R =
+  sphere-runs nt np h k e a b R =
       runs-as
-      (sym (sphere-surface p c r nt np flip)
-      ∙ ap (λ (n : ℕ). grid n np flip (spherePoint c r n np)) a
+      (ap (λ (n : ℕ). grid n np flip (spherePoint c r n np)) a
       ∙ ap (λ (n : ℕ). grid (max rings 2) n flip (spherePoint c r (max rings 2) n)) b
       ∙ ap (λ (t : Bool). cond t [] (grid (max rings 2) (max segments 3) flip (spherePoint c r (max rings 2) (max segments 3)))) (sym e)) R
 

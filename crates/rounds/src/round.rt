@@ -2,6 +2,7 @@
 ghost use mathlib.Core.Path.{_≡_};
 ghost use Prim.Native.Nat.{_≤_};
 ghost use Rattle.weld.specs.Rep.{held, Ready, Runs};
+ghost use Rattle.soups.specs.Grid.{grid};
 ghost use Rattle.soups.specs.Sphere as Sphere;
 ghost use Rattle.soups.specs.Cylinder as Cylinder;
 use math::Vec3;
@@ -12,28 +13,65 @@ use weld::Welder;
 
 const TAU: f64 = 6.283185307179586;
 
-pub fn weld_sphere(
+// The grid of a sphere of at most 64 rings and segments. Its tables are small, so that clearing them takes little time.
+fn weld_small_sphere(
     vertices: &mut [f64],
     triangles: &mut [u32],
     work: &mut [u32],
     w: Welder,
     c: Vec3,
     r: f64,
-    segments: usize,
-    rings: usize,
+    nt: usize,
+    np: usize,
     flip: bool,
 ) -> Welder
     requires { ⌜ Ready (held w (now vertices) (now triangles) (now work)) ⌝ }
-    requires { ⌜ (segments ≤ 1024) × (rings ≤ 1024) ⌝ }
-    ensures { λ k. ⌜ Runs (Sphere.sphere c r segments rings flip)
+    requires { ⌜ (2 ≤ nt) × (3 ≤ np) × (nt ≤ 64) × (np ≤ 64) ⌝ }
+    ensures { λ k. ⌜ Runs (grid nt np flip (Sphere.spherePoint c r nt np))
         (held w (now (vertices .entry)) (now (triangles .entry)) (now (work .entry)))
         (held k (now (vertices .exit)) (now (triangles .exit)) (now (work .exit))) ⌝ }
 {
-    if r <= 0.0 {
-        return w;
-    }
-    let nt = points::larger(rings, 2);
-    let np = points::larger(segments, 3);
+    let none = [0.0; 2];
+    let mut rows = [0.0; 130];
+    let mut cols = [0.0; 130];
+    let mut numbers = [0usize; 65];
+    surfaces::fill_few(Turns::Latitudes { nt }, nt, &mut rows);
+    surfaces::fill_few(Turns::Longitudes { np }, np, &mut cols);
+    let s = Surface::Sphere { c, r, nt, np };
+    grids::weld_grid(
+        vertices,
+        triangles,
+        work,
+        w,
+        s,
+        &none,
+        &rows,
+        &cols,
+        &mut numbers,
+        nt,
+        np,
+        flip,
+    )
+}
+
+// The grid of any sphere.
+fn weld_large_sphere(
+    vertices: &mut [f64],
+    triangles: &mut [u32],
+    work: &mut [u32],
+    w: Welder,
+    c: Vec3,
+    r: f64,
+    nt: usize,
+    np: usize,
+    flip: bool,
+) -> Welder
+    requires { ⌜ Ready (held w (now vertices) (now triangles) (now work)) ⌝ }
+    requires { ⌜ (2 ≤ nt) × (3 ≤ np) × (nt ≤ 1024) × (np ≤ 1024) ⌝ }
+    ensures { λ k. ⌜ Runs (grid nt np flip (Sphere.spherePoint c r nt np))
+        (held w (now (vertices .entry)) (now (triangles .entry)) (now (work .entry)))
+        (held k (now (vertices .exit)) (now (triangles .exit)) (now (work .exit))) ⌝ }
+{
     let none = [0.0; 2];
     let mut rows = [0.0; 2050];
     let mut cols = [0.0; 2050];
@@ -57,6 +95,34 @@ pub fn weld_sphere(
     )
 }
 
+pub fn weld_sphere(
+    vertices: &mut [f64],
+    triangles: &mut [u32],
+    work: &mut [u32],
+    w: Welder,
+    c: Vec3,
+    r: f64,
+    segments: usize,
+    rings: usize,
+    flip: bool,
+) -> Welder
+    requires { ⌜ Ready (held w (now vertices) (now triangles) (now work)) ⌝ }
+    requires { ⌜ (segments ≤ 1024) × (rings ≤ 1024) ⌝ }
+    ensures { λ k. ⌜ Runs (Sphere.sphere c r segments rings flip)
+        (held w (now (vertices .entry)) (now (triangles .entry)) (now (work .entry)))
+        (held k (now (vertices .exit)) (now (triangles .exit)) (now (work .exit))) ⌝ }
+{
+    if r <= 0.0 {
+        return w;
+    }
+    let nt = points::larger(rings, 2);
+    let np = points::larger(segments, 3);
+    if points::larger(nt, np) <= 64 {
+        return weld_small_sphere(vertices, triangles, work, w, c, r, nt, np, flip);
+    }
+    weld_large_sphere(vertices, triangles, work, w, c, r, nt, np, flip)
+}
+
 // A sphere's two skins. The inner one is turned round.
 pub fn weld_spherical_shell(
     vertices: &mut [f64],
@@ -76,7 +142,7 @@ pub fn weld_spherical_shell(
         (held w (now (vertices .entry)) (now (triangles .entry)) (now (work .entry)))
         (held k (now (vertices .exit)) (now (triangles .exit)) (now (work .exit))) ⌝ }
 {
-    let c = points::to_cartesian(center, cylindrical);
+    let c = around::to_cartesian(center, cylindrical);
     let half = width / 2.0;
     let outer = weld_sphere(
         vertices,
@@ -126,8 +192,8 @@ fn weld_tube(
 {
     let np = points::larger(segments, 3);
     let inner = ieee::max(r0, 0.0);
-    let e1 = points::frame1(d);
-    let e2 = points::frame2(d);
+    let e1 = around::frame1(d);
+    let e2 = around::frame2(d);
     let lo = Vec3 {
         x: inner,
         y: 0.0,

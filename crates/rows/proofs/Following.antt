@@ -8,8 +8,8 @@ use Rattle.ieee.specs.Same.{or-l, or-r, T-true, true-T, finite-not-nan, eq-refl
 use Rattle.ieee.specs.Total.{total, le-refl, lt→le}
 use Rattle.ieee.specs.Order.{le-trans, past-lower, past-upper}
 use Rattle.math.specs.declared.Vec3.{Vec3}
-use Rattle.chain.specs.Points.{CleanFloat, Clean}
-use Rattle.chain.proofs.Clean.{eq-data}
+use Rattle.stored.specs.Points.{CleanFloat, Clean}
+use Rattle.stored.proofs.Clean.{eq-data}
 use Rattle.rows.specs.declared.Row.{Row}
 use Rattle.rows.specs.Rows.{beside, within, Follows}
 use Rattle.rows.proofs.Within.{false-T, level-is, above-is, facts, made, rising-near, rising-facts, falling-facts, rising-made, falling-made}

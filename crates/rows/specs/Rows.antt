@@ -3,7 +3,7 @@ use mathlib.Core.Path.{_≡_}
 use mathlib.Core.Bool.{Bool, true, _&&_, _||_, cond}
 use lib.Ieee.{lt, le, eq}
 use Rattle.math.specs.declared.Vec3.{Vec3}
-use Rattle.chain.specs.Points.{Clean}
+use Rattle.stored.specs.Points.{Clean}
 use Rattle.rows.specs.declared.Row.{Row}
 
 -- where the points of the last point's row lie

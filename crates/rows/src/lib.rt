@@ -2,7 +2,7 @@
 // Whether a point is new is seen from the last one then, with no search.
 ghost use mathlib.Core.Path.{_≡_};
 ghost use mathlib.Core.Bool.{true, false};
-ghost use Rattle.chain.specs.Points.{Clean};
+ghost use Rattle.stored.specs.Points.{Clean};
 ghost use Rattle.rows.specs.Rows.{beside, within, Follows};
 use math::Vec3;
 

@@ -36,7 +36,7 @@ pub fn weld_solid(
             segments,
         ),
         Shape::Sphere { center, radius } => {
-            let c = points::to_cartesian(center, cylindrical);
+            let c = around::to_cartesian(center, cylindrical);
             rounds::weld_sphere(
                 vertices,
                 triangles,
@@ -70,8 +70,8 @@ pub fn weld_solid(
             stop,
             radius,
         } => {
-            let a = points::to_cartesian(start, cylindrical);
-            let b = points::to_cartesian(stop, cylindrical);
+            let a = around::to_cartesian(start, cylindrical);
+            let b = around::to_cartesian(stop, cylindrical);
             rounds::weld_cylinder(vertices, triangles, work, w, a, b, 0.0, radius, segments)
         }
         Shape::CylindricalShell {
@@ -80,8 +80,8 @@ pub fn weld_solid(
             radius,
             shell_width,
         } => {
-            let a = points::to_cartesian(start, cylindrical);
-            let b = points::to_cartesian(stop, cylindrical);
+            let a = around::to_cartesian(start, cylindrical);
+            let b = around::to_cartesian(stop, cylindrical);
             let half = shell_width / 2.0;
             rounds::weld_cylinder(
                 vertices,

@@ -22,7 +22,7 @@ use Rattle.soups.specs.Surface.{mapped, lineAt, surfaceAt}
 use Rattle.surfaces.specs.declared.surface.Polar.{Polar}
 use Rattle.surfaces.specs.declared.turns.Turns.{Turns}
 use Rattle.surfaces.specs.declared.turns.Turns.the-variants.{Latitudes, Longitudes, OnLine, Angles}
-use Rattle.points.specs.Pieces.{turned, cylindricalBy, aroundAxisBy}
+use Rattle.around.specs.Pieces.{turned, cylindricalBy, aroundAxisBy}
 use Rattle.surfaces.specs.Pieces.{polarOn, onFace, onExtruded, onRotated}
 use Rattle.surfaces.specs.Within.{FaceWithin, SphereWithin, ExtrudedWithin, RotatedWithin, Within}
 use Rattle.surfaces.specs.Turns.{turnAt, entry, Filled, RoundTabled, Tabled}

@@ -5,4 +5,5 @@ mod turns;
 
 pub use surface::surface_point;
 pub use turns::Turns;
+pub use turns::fill_few;
 pub use turns::fill_turns;

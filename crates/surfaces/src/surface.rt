@@ -90,11 +90,11 @@ fn face_at(
         ),
         Chart::Cylindrical => {
             let p = polar_at(k, val, u, v, rows, cols, i, j);
-            points::cylindrical_by(p.t, p.x, p.z)
+            around::cylindrical_by(p.t, p.x, p.z)
         }
         Chart::Around { a, d, e1, e2 } => {
             let p = polar_at(k, val, u, v, rows, cols, i, j);
-            points::around_axis_by(a, d, e1, e2, p.t, p.x, p.z)
+            around::around_axis_by(a, d, e1, e2, p.t, p.x, p.z)
         }
     }
 }
@@ -104,7 +104,7 @@ fn extruded_at(corners: &[f64], n: usize, len: usize, lo: f64, hi: f64, i: usize
     ensures { λ r. ⌜ r ≡ Pieces.onExtruded (now (corners .entry)) n len lo hi i j ⌝ }
 {
     let c = outline::corner(corners, round(i, len));
-    points::plane_point(n, c, points::height(lo, hi, j))
+    sides::plane_point(n, c, sides::height(lo, hi, j))
 }
 
 fn rotated_at(corners: &[f64], a: usize, q: usize, len: usize, t: SinCos, i: usize) -> Vec3
@@ -112,7 +112,7 @@ fn rotated_at(corners: &[f64], a: usize, q: usize, len: usize, t: SinCos, i: usi
     ensures { λ r. ⌜ r ≡ Pieces.onRotated (now (corners .entry)) a q len t i ⌝ }
 {
     let c = outline::corner(corners, round(i, len));
-    points::spun(a, q, c, t)
+    sides::spun(a, q, c, t)
 }
 
 // The point (i, j). rows has the sines and cosines that go by i, cols those that go by j.
@@ -137,7 +137,7 @@ pub fn surface_point(
             v,
         } => face_at(chart, k, val, u, v, rows, cols, i, j),
         Surface::Sphere { c, r, nt, np } => {
-            points::on_sphere(c, r, turns::entry(rows, i), turns::entry(cols, j))
+            ball::on_sphere(c, r, turns::entry(rows, i), turns::entry(cols, j))
         }
         Surface::Extruded { n, len, lo, hi } => extruded_at(corners, n, len, lo, hi, i, j),
         Surface::Rotated {

@@ -31,15 +31,15 @@ pub fn turn_at(t: Turns, k: usize) -> SinCos
     ensures { λ r. ⌜ r ≡ turnAt t k ⌝ }
 {
     match t {
-        Turns::Latitudes { nt } => points::latitude(nt, k),
-        Turns::Longitudes { np } => points::longitude(np, k),
+        Turns::Latitudes { nt } => ball::latitude(nt, k),
+        Turns::Longitudes { np } => ball::longitude(np, k),
         Turns::OnLine { l } => trig::sin_cos(points::line_at(l, k)),
         Turns::Angles {
             full,
             start,
             span,
             n,
-        } => trig::sin_cos(points::angle(full, start, span, n, k)),
+        } => trig::sin_cos(sides::angle(full, start, span, n, k)),
     }
 }
 
@@ -62,6 +62,14 @@ fn fill_entries(t: Turns, n: usize, table: &mut [f64])
 pub fn fill_turns(t: Turns, n: usize, table: &mut [f64; 2050])
     requires { ⌜ (n ≤ 1024) × TurnsWithin t n ⌝ }
     ensures { λ _. ⌜ Filled t n (now (table .exit)) × (length (now (table .exit)) ≡ 2050) ⌝ }
+{
+    fill_entries(t, n, table);
+}
+
+// The entries 0 to n of a small table.
+pub fn fill_few(t: Turns, n: usize, table: &mut [f64; 130])
+    requires { ⌜ (n ≤ 64) × TurnsWithin t n ⌝ }
+    ensures { λ _. ⌜ Filled t n (now (table .exit)) × (length (now (table .exit)) ≡ 130) ⌝ }
 {
     fill_entries(t, n, table);
 }

@@ -36,12 +36,12 @@ fn weld_cap(
     let an = surfaces::surface_point(s, corners, rows, cols, a, near);
     let bn = surfaces::surface_point(s, corners, rows, cols, b, near);
     let cn = surfaces::surface_point(s, corners, rows, cols, c, near);
-    let u = weld::weld_triangle(vertices, triangles, work, w, an, bn, cn);
+    let u = welding::weld_triangle(vertices, triangles, work, w, an, bn, cn);
     if both {
         let af = surfaces::surface_point(s, corners, rows, cols, a, far);
         let cf = surfaces::surface_point(s, corners, rows, cols, c, far);
         let bf = surfaces::surface_point(s, corners, rows, cols, b, far);
-        return weld::weld_triangle(vertices, triangles, work, u, af, cf, bf);
+        return welding::weld_triangle(vertices, triangles, work, u, af, cf, bf);
     }
     u
 }

@@ -86,7 +86,7 @@ pub fn fold(ops: [TransformOp; 16], count: usize, degrees: bool) -> Mat4
     let mut i = 0;
     while i < n {
         let op = ops[i];
-        acc = matrix::product(op_matrix(op, degrees), acc);
+        acc = products::product(op_matrix(op, degrees), acc);
         i += 1;
     }
     acc

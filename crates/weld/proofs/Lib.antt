@@ -1,6 +1,4 @@
 -- Laws that the proofs of the functions use.
 pub mod Places
 pub mod InRows
-pub mod Point
-pub mod Triangle
 pub mod Parts

@@ -9,7 +9,7 @@ use lib.Seq.{getD-take, sets-eq, take-at, length-take-le}
 use lib.Ieee.{Float, nan}
 use Rattle.math.specs.declared.Vec3.{Vec3}
 use Rattle.trimesh.specs.Slices.{flatV}
-use Rattle.chain.specs.Points.{vertexAt}
+use Rattle.stored.specs.Points.{vertexAt}
 use Rattle.weld.specs.Rep.{limit, placesOf}
 
 module _ {A : Type 0} where

@@ -1,6 +1,6 @@
 -- How the lent slices hold a mesh while it is welded, and what "this soup was welded" says. Definitions only; the public contracts cite them.
 use mathlib.Core.Path.{_≡_}
-use mathlib.Core.Bool.{true, false, _&&_}
+use mathlib.Core.Bool.{true, false, _&&_, cond}
 use mathlib.Core.List.{List}
 use mathlib.Core.Logic.{_⊎_}
 use Prim.Native.Nat.{ℕ, _-_, _*_, _/_, _≤_, _<_, min}
@@ -12,8 +12,8 @@ use Rattle.balance.specs.Buffer.{flat}
 use Rattle.trimesh.specs.Mesh.{Mesh, noMesh, append, weldSoup, everyFinite}
 use Rattle.trimesh.specs.Slices.{flatV}
 use Rattle.weld.specs.declared.Welder.{Welder}
-use Rattle.chain.specs.Points.{Clean, vertexAt}
-use Rattle.chain.specs.Hash.{Chained}
+use Rattle.stored.specs.Points.{vertexAt}
+use Rattle.chain.specs.Hash.{Stored, Chained}
 use Rattle.rows.specs.declared.Row.{Row}
 use Rattle.rows.specs.Rows.{within}
 
@@ -45,17 +45,19 @@ pub record InRow (base count : ℕ) (vs : List Float) (p : Vec3) (r : Row) : Typ
   pub keeps : (m : ℕ) → base ≤ m → m < count → within r p (vertexAt vs m) ≡ true
 
 -- where `ordered` says so, the vertices of this part came row by row
-pub record InRows (w : Welder) (vs : List Float) : Type 0 where
-  pub room : 3 * w .count ≤ length vs
-  pub based : w .base ≤ w .count
-  pub clean : (m : ℕ) → m < w .count → Clean (vertexAt vs m)
-  pub rows : w .ordered ≡ true → (m : ℕ) → w .base ≤ m → m < w .count → within (rowOf w) (vertexAt vs (w .count - 1)) (vertexAt vs m) ≡ true
+abbrev pub InRows : Welder → List Float → Type 0
+InRows w vs = w .ordered ≡ true → (m : ℕ) → w .base ≤ m → m < w .count → within (rowOf w) (vertexAt vs (w .count - 1)) (vertexAt vs m) ≡ true
 
--- the chains stand, `places` counts the places for vertices, and the vertices of this part came row by row where `ordered` says so
+-- so many vertices are in the chains: while they come row by row, those of this part are not
+abbrev pub indexed : Welder → ℕ
+indexed w = cond (w .ordered) (w .base) (w .count)
+
+-- the vertices and the chains stand, and `places` counts the places for vertices
 pub record Linked (w : Welder) (vs : List Float) (ws : List ℕ) : Type 0 where
-  pub chained : Chained vs ws (w .places) (w .base) (w .count)
+  pub stored : Stored vs (w .places) (w .base) (w .count)
+  pub chained : Chained vs ws (w .places) (w .base) (indexed w)
   pub places : w .places ≡ placesOf vs
-  pub rows : w .ordered ≡ true → (m : ℕ) → w .base ≤ m → m < w .count → within (rowOf w) (vertexAt vs (w .count - 1)) (vertexAt vs m) ≡ true
+  pub rows : InRows w vs
 
 -- what the code needs to be safe: nothing here speaks of the mesh
 pub record Ready (h : Held) : Type 0 where

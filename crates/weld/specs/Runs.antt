@@ -80,7 +80,7 @@ Fits M h = (length (M .vertices) ≤ placesOf (h .vertices)) × (length (M .tria
 
 -- `room` is exact: a mesh that the slices hold fits them, and one that is over does not
 pub holds-fits : (M : Mesh) (h : Held) → Ready h → Holds M h → Fits M h
-holds-fits M h R H = (omega (arith, H .count, R .linked .chained .within, R .linked .places), omega (arith, H .faces, R .faces))
+holds-fits M h R H = (omega (arith, H .count, R .linked .stored .within, R .linked .places), omega (arith, H .faces, R .faces))
 
 pub over-not-fits : (M : Mesh) (h : Held) → Over M h → Fits M h → ⊥
 over-not-fits M h (inl w) f = omega (arith, f .0)

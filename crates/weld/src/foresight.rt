@@ -2,9 +2,10 @@
 ghost use mathlib.Core.Path.{_≡_};
 ghost use mathlib.Core.Bool.{true, false};
 ghost use Prim.Native.Nat.{_<_};
-ghost use Rattle.chain.specs.Points.{Clean};
+ghost use Rattle.stored.specs.Points.{Clean};
+ghost use Rattle.chain.specs.Hash.{Stored};
 ghost use Rattle.weld.specs.Rep.{InRows};
-ghost use Rattle.weld.specs.Steps.{freshIn, Foresees};
+ghost use Rattle.weld.specs.States.{freshIn, Foresees};
 use crate::Foreseen;
 use crate::Welder;
 use math::Vec3;
@@ -22,7 +23,7 @@ fn fresh(row: Row) -> Foreseen
 }
 
 // A point that has to be searched for.
-fn unknown() -> Foreseen
+pub fn unknown() -> Foreseen
     ensures { λ r. ⌜ r .fresh ≡ false ⌝ }
 {
     Foreseen {
@@ -34,7 +35,7 @@ fn unknown() -> Foreseen
 
 // The first point of a part is new, and so is one that continues the rows.
 pub fn foresee(vertices: &[f64], w: Welder, p: Vec3) -> Foreseen
-    requires { ⌜ InRows w (now vertices) × Clean p ⌝ }
+    requires { ⌜ Stored (now vertices) (w .places) (w .base) (w .count) × InRows w (now vertices) × Clean p ⌝ }
     ensures { λ r. ⌜ Foresees w (now (vertices .entry)) p r ⌝ }
 {
     if w.base == w.count {
@@ -49,14 +50,14 @@ pub fn foresee(vertices: &[f64], w: Welder, p: Vec3) -> Foreseen
 
 // The same where there are vertices, and they came row by row.
 fn from_last(vertices: &[f64], w: Welder, p: Vec3) -> Foreseen
-    requires { ⌜ InRows w (now vertices) × Clean p × (w .base < w .count) × (w .ordered ≡ true) ⌝ }
+    requires { ⌜ Stored (now vertices) (w .places) (w .base) (w .count) × InRows w (now vertices) × Clean p × (w .base < w .count) × (w .ordered ≡ true) ⌝ }
     ensures { λ r. ⌜ Foresees w (now (vertices .entry)) p r ⌝ }
 {
     let row = Row {
         near: w.near,
         rising: w.rising,
     };
-    let last = chain::vertex(vertices, w.count - 1);
+    let last = stored::vertex(vertices, w.count - 1);
     if rows::is_within(row, last, p) {
         return unknown();
     }

@@ -1,27 +1,30 @@
-// from_soup of src/tessellate.rs, one triangle at a time: the soup is not stored. A mesh lies in lent slices, three floats a
-// vertex and three numbers a triangle; the work slice holds the hash chains of `chain`.
+// The state in which from_soup of src/tessellate.rs runs, one triangle at a time: the soup is not stored. A mesh lies in lent
+// slices, three floats a vertex and three numbers a triangle; the work slice holds the hash chains of `chain`.
 ghost use mathlib.Core.Path.{_≡_};
-ghost use mathlib.Core.List.{[], _∷_};
 ghost use Prim.Native.Nat.{ℕ, _*_, _/_, _≤_};
 ghost use lib.ListN.{length, getD};
-ghost use Rattle.weld.specs.Rep.{held, Ready, Runs, Begun, Parted};
+ghost use Rattle.weld.specs.Rep.{Begun, Parted};
 
 mod foresight;
 mod points;
 mod states;
-mod steps;
 
+pub use foresight::foresee;
+pub use foresight::unknown;
 use math::Vec3;
 pub use points::is_finite;
 pub use points::plus_zero;
+pub use states::full;
+pub use states::grown;
+pub use states::settled;
 pub use states::stopped;
-pub use steps::add_triangle;
-pub use steps::look_up;
-pub use steps::weld_point;
+pub use states::whole_places;
+pub use states::with_face;
 
 // The state of the welder. `base` vertices belong to the parts before this one, `count` vertices and `faces` triangles are
 // written, and `places` vertices fit. `finite` is false once a point was not finite, `room` once the mesh did not fit. While
 // the vertices of this part come row by row, `ordered` is true, and `near` and `rising` are the row of the last one, see `rows`.
+// They go into the chains when one is searched for; from then on `ordered` is false.
 pub struct Welder {
     pub base: usize,
     pub count: usize,
@@ -32,12 +35,6 @@ pub struct Welder {
     pub room: bool,
     pub ordered: bool,
     pub rising: bool,
-}
-
-// The number of a point, and the state after it.
-pub struct Welded {
-    pub number: usize,
-    pub st: Welder,
 }
 
 // What is seen of a point before a search: whether it is new, and the row after it.
@@ -80,43 +77,4 @@ pub fn new_part(w: Welder) -> Welder
         ordered: false,
         rising: false,
     }
-}
-
-// Welds a triangle. A point that is not finite stops the welder.
-pub fn weld_triangle(
-    vertices: &mut [f64],
-    triangles: &mut [u32],
-    work: &mut [u32],
-    w: Welder,
-    a: Vec3,
-    b: Vec3,
-    c: Vec3,
-) -> Welder
-    requires { ⌜ Ready (held w (now vertices) (now triangles) (now work)) ⌝ }
-    ensures { λ r. ⌜ Runs ((a, b, c) ∷ [])
-        (held w (now (vertices .entry)) (now (triangles .entry)) (now (work .entry)))
-        (held r (now (vertices .exit)) (now (triangles .exit)) (now (work .exit))) ⌝ }
-{
-    let finite = w.finite;
-    if !finite {
-        return w;
-    }
-    if !is_finite(a) {
-        return stopped(w);
-    }
-    if !is_finite(b) {
-        return stopped(w);
-    }
-    if !is_finite(c) {
-        return stopped(w);
-    }
-    steps::weld_points(
-        vertices,
-        triangles,
-        work,
-        w,
-        plus_zero(a),
-        plus_zero(b),
-        plus_zero(c),
-    )
 }

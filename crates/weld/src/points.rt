@@ -2,7 +2,7 @@
 ghost use mathlib.Core.Path.{_≡_};
 ghost use mathlib.Core.Bool.{true};
 ghost use Rattle.trimesh.specs.Mesh.{finiteV, plusZeroV};
-ghost use Rattle.chain.specs.Points.{Clean};
+ghost use Rattle.stored.specs.Points.{Clean};
 use math::Vec3;
 
 // Vec3::is_finite.

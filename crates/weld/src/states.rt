@@ -1,8 +1,8 @@
-// The whole places of a slice, and the states in which the welder stops.
+// The whole places of a slice, and the states of the welder after a step.
 ghost use mathlib.Core.Path.{_≡_};
 ghost use Prim.Native.Nat.{_/_, _<_, _^_, min};
 ghost use Rattle.weld.specs.Rep.{limit};
-ghost use Rattle.weld.specs.Steps.{unfinite, shut, more, moreFaces};
+ghost use Rattle.weld.specs.States.{unfinite, shut, more, moreFaces, settled as settledState};
 use crate::Foreseen;
 use crate::Welder;
 
@@ -84,6 +84,23 @@ pub fn with_face(w: Welder) -> Welder
         finite: w.finite,
         room: w.room,
         ordered: w.ordered,
+        rising: w.rising,
+    }
+}
+
+// The state after all vertices of this part went into the chains.
+pub fn settled(w: Welder) -> Welder
+    ensures { λ r. ⌜ r ≡ settledState w ⌝ }
+{
+    Welder {
+        base: w.base,
+        count: w.count,
+        places: w.places,
+        faces: w.faces,
+        near: w.near,
+        finite: w.finite,
+        room: w.room,
+        ordered: false,
         rising: w.rising,
     }
 }

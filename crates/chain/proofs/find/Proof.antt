@@ -28,7 +28,7 @@ wide-requires c κs = search needs
 loop-holds : tie.Need-loop-holds Inv-loop μ-loop
 loop-holds c =
     let s = c .before .before .before .before in
-    walk-start (now (s .args .vertices)) (now (s .args .work)) (s .args .places) (s .args .base) (s .args .count) (s .pre .0) (s .args .p) (s .pre .1 .2)
+    walk-start (now (s .args .vertices)) (s .args .places) (s .args .base) (s .args .count) (s .pre .0 .0) (s .args .p) (s .pre .1 .2) (now (s .args .work)) (s .pre .0 .1)
     (s .args .bucket) _ (s .pre .1 .0) (s .pre .1 .1) (c .wide .ensures)
 
 sub-m : tie.Need-sub-m Inv-loop μ-loop
@@ -44,7 +44,7 @@ returns : tie.Need-returns Inv-loop μ-loop
 returns c =
     let a = c .before .before .before .before in
     let s = a .before .before .before .before .before in
-    (walk-at (now (s .args .vertices)) (now (s .args .work)) (s .args .places) (s .args .base) (s .args .count) (s .pre .0) (s .args .p) (s .pre .1 .2) (a .loop .k)
+    (walk-at (now (s .args .vertices)) (s .args .places) (s .args .base) (s .args .count) (s .pre .0 .0) (s .args .p) (s .pre .1 .2) (a .loop .k)
     (a .loop .k - 1) (a .loop .inv) (omega arith) (c .before .before .before .loop-test .taken)
     (ap (λ (q : Vec3). samePoint q (s .args .p)) (sym (c .before .before .vertex .ensures)) ∙ sym (c .before .equal .ensures) ∙ c .if1 .taken))
 
@@ -64,22 +64,22 @@ loop-less : tie.Need-loop-less Inv-loop μ-loop
 loop-less c =
     let a = c .before .before .before .before .before .before in
     let s = a .before .before .before .before .before in
-    walk-less (now (s .args .vertices)) (now (s .args .work)) (s .args .places) (s .args .base) (s .args .count) (s .pre .0) (s .args .p) (s .pre .1 .2) (a .loop .k)
-    (a .loop .k - 1) _ (a .loop .inv) (omega arith) (c .wide2 .ensures)
+    walk-less (now (s .args .vertices)) (s .args .places) (s .args .base) (s .args .count) (s .pre .0 .0) (s .args .p) (s .pre .1 .2) (now (s .args .work)) (s .pre .0 .1) (a .loop .k)
+    (a .loop .k - 1) _ (a .loop .inv) (c .before .before .before .before .before .loop-test .taken) (omega arith) (c .wide2 .ensures)
 
 loop-again : tie.Need-loop-again Inv-loop μ-loop
 loop-again c =
     let a = c .before .before .before .before .before .before in
     let s = a .before .before .before .before .before in
-    walk-next (now (s .args .vertices)) (now (s .args .work)) (s .args .places) (s .args .base) (s .args .count) (s .pre .0) (s .args .p) (s .pre .1 .2) (a .loop .k)
-    (a .loop .k - 1) _ (a .loop .inv) (omega arith)
+    walk-next (now (s .args .vertices)) (s .args .places) (s .args .base) (s .args .count) (s .pre .0 .0) (s .args .p) (s .pre .1 .2) (now (s .args .work)) (s .pre .0 .1) (a .loop .k)
+    (a .loop .k - 1) _ (a .loop .inv) (c .before .before .before .before .before .loop-test .taken) (omega arith)
     (ap (λ (q : Vec3). samePoint q (s .args .p)) (sym (c .before .before .before .before .vertex .ensures)) ∙ sym (c .before .before .before .equal .ensures) ∙ c .before .before .if1 .left)
     (c .wide2 .ensures)
 
 returns-2 : tie.Need-returns-2 Inv-loop μ-loop
 returns-2 c =
     let s = c .before .before .before .before .before .before in
-    (walk-end (now (s .args .vertices)) (now (s .args .work)) (s .args .places) (s .args .base) (s .args .count) (s .pre .0) (s .args .p) (s .pre .1 .2)
+    (walk-end (now (s .args .vertices)) (s .args .places) (s .args .base) (s .args .count) (s .pre .0 .0) (s .args .p) (s .pre .1 .2)
     (c .before .loop .k) (c .before .loop .inv) (c .loop-test .left))
 
 pub find-spec : {M : Type 1} → statement M

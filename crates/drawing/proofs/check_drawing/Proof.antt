@@ -1,38 +1,32 @@
 -- `drawing::check_drawing` meets its contract. Assumes nothing.
 use borrow.Author.Needs.{needs}
-use lib.ListN.{length, take}
-use Rattle.drawing.proofs.Order.{list-test, angle-test, told-3, told-4, told-1, told-2, told-none}
+use lib.ListN.{take}
+use Rattle.drawing.proofs.Order.{angle-test, told-3, told-4, told-1, told-2, told-none}
 use Rattle.drawing.proofs.check_drawing.Statement.{statement}
 use Rattle.drawing.proofs.check_drawing.Tie as tie
 
 too-many-segments-requires : tie.Need-too-many-segments-requires
 too-many-segments-requires c κs = search needs
 
-item-floats-requires : tie.Need-item-floats-requires
-item-floats-requires c κs = search needs
-
-bad-list-requires : tie.Need-bad-list-requires
-bad-list-requires c κs = search needs
+bad-lists-requires : tie.Need-bad-lists-requires
+bad-lists-requires c κs = search needs
 
 returns : tie.Need-returns
 returns c =
-    let args = c .before .before .before .before .before .args in
+    let args = c .before .before .before .before .args in
     told-3
     (args .shape) (args .list .now) (args .own) (args .default) (args .options) (args .ops) (args .op-count) (args .degrees)
-    (c .before .before .before .too-many-segments .ensures)
+    (c .before .before .too-many-segments .ensures)
     (c .if1 .taken)
 
 returns-2 : tie.Need-returns-2
 returns-2 c =
-    let args = c .before .before .before .before .before .before .args in
-    let four = list-test (args .shape) (length (args .list .now)) (args .op-count)
-    (c .before .before .before .item-floats .ensures)
-    (c .before .before .bad-list .ensures) in
+    let args = c .before .before .before .before .before .args in
     told-4
     (args .shape) (args .list .now) (args .own) (args .default) (args .options) (args .ops) (args .op-count) (args .degrees)
-    (c .before .before .before .before .too-many-segments .ensures)
+    (c .before .before .before .too-many-segments .ensures)
     (c .before .if1 .left)
-    four
+    (c .before .before .bad-lists .ensures)
     (c .if2 .taken)
 
 numbers-bad-requires : tie.Need-numbers-bad-requires
@@ -40,15 +34,12 @@ numbers-bad-requires c κs = search needs
 
 returns-3 : tie.Need-returns-3
 returns-3 c =
-    let args = c .before .before .before .before .before .before .before .before .args in
-    let four = list-test (args .shape) (length (args .list .now)) (args .op-count)
-    (c .before .before .before .before .before .item-floats .ensures)
-    (c .before .before .before .before .bad-list .ensures) in
+    let args = c .before .before .before .before .before .before .before .args in
     told-1
     (args .shape) (args .list .now) (args .own) (args .default) (args .options) (args .ops) (args .op-count) (args .degrees)
-    (c .before .before .before .before .before .before .too-many-segments .ensures)
+    (c .before .before .before .before .before .too-many-segments .ensures)
     (c .before .before .before .if1 .left)
-    four
+    (c .before .before .before .before .bad-lists .ensures)
     (c .before .before .if2 .left)
     (c .before .numbers-bad .ensures)
     (c .if3 .taken)
@@ -64,17 +55,14 @@ angles-bad-requires c κs = search needs
 
 returns-4 : tie.Need-returns-4
 returns-4 c =
-    let args = c .before .before .before .before .before .before .before .before .before .before .before .before .args in
-    let four = list-test (args .shape) (length (args .list .now)) (args .op-count)
-    (c .before .before .before .before .before .before .before .before .before .item-floats .ensures)
-    (c .before .before .before .before .before .before .before .before .bad-list .ensures) in
+    let args = c .before .before .before .before .before .before .before .before .before .before .before .args in
     let two = angle-test (args .shape) (args .list .now) (args .own) (args .default) (args .degrees) (take (args .op-count) (args .ops))
     (c .before .before .before .shape-cs .ensures) (c .before .before .is-cylindrical .ensures) (c .before .angles-bad .ensures) in
     told-2
     (args .shape) (args .list .now) (args .own) (args .default) (args .options) (args .ops) (args .op-count) (args .degrees)
-    (c .before .before .before .before .before .before .before .before .before .before .too-many-segments .ensures)
+    (c .before .before .before .before .before .before .before .before .before .too-many-segments .ensures)
     (c .before .before .before .before .before .before .before .if1 .left)
-    four
+    (c .before .before .before .before .before .before .before .before .bad-lists .ensures)
     (c .before .before .before .before .before .before .if2 .left)
     (c .before .before .before .before .before .numbers-bad .ensures)
     (c .before .before .before .before .if3 .left)
@@ -83,17 +71,14 @@ returns-4 c =
 
 returns-5 : tie.Need-returns-5
 returns-5 c =
-    let args = c .before .before .before .before .before .before .before .before .before .before .before .before .args in
-    let four = list-test (args .shape) (length (args .list .now)) (args .op-count)
-    (c .before .before .before .before .before .before .before .before .before .item-floats .ensures)
-    (c .before .before .before .before .before .before .before .before .bad-list .ensures) in
+    let args = c .before .before .before .before .before .before .before .before .before .before .before .args in
     let two = angle-test (args .shape) (args .list .now) (args .own) (args .default) (args .degrees) (take (args .op-count) (args .ops))
     (c .before .before .before .shape-cs .ensures) (c .before .before .is-cylindrical .ensures) (c .before .angles-bad .ensures) in
     told-none
     (args .shape) (args .list .now) (args .own) (args .default) (args .options) (args .ops) (args .op-count) (args .degrees)
-    (c .before .before .before .before .before .before .before .before .before .before .too-many-segments .ensures)
+    (c .before .before .before .before .before .before .before .before .before .too-many-segments .ensures)
     (c .before .before .before .before .before .before .before .if1 .left)
-    four
+    (c .before .before .before .before .before .before .before .before .bad-lists .ensures)
     (c .before .before .before .before .before .before .if2 .left)
     (c .before .before .before .before .before .numbers-bad .ensures)
     (c .before .before .before .before .if3 .left)
@@ -105,8 +90,7 @@ check-drawing-spec =
     tie.close
     (tie.spec
     too-many-segments-requires
-    item-floats-requires
-    bad-list-requires
+    bad-lists-requires
     returns
     returns-2
     numbers-bad-requires

@@ -1,95 +1,72 @@
 -- `grids::grid::weld_grid` meets its contract. Assumes nothing.
+use borrow.Author.Needs.{needs}
+use mathlib.Core.Path.{sym, ap}
+use Prim.Native.Nat.{ℕ}
 use native.Mathlib.Omega.{arith}
 use denote.Ref.{now}
-use mathlib.Core.Path.{_≡_, refl, ap, _∙_}
-use Prim.Native.Nat.{ℕ, _+_, _-_, _≤_, zero-le}
-use lib.ListN.{length}
-use Rattle.weld.specs.Rep.{held, Runs}
 use Rattle.weld.specs.Runs.{runs-as}
 use Rattle.soups.specs.Grid.{grid}
 use Rattle.soups.specs.Surface.{surfaceAt}
 use Rattle.surfaces.proofs.Surfaces.{within-less, tabled-less}
-use Rattle.grids.proofs.Cells.{grid-none, grid-more}
 use Rattle.grids.proofs.grid.weld_grid.Statement.{statement}
 use Rattle.grids.proofs.grid.weld_grid.Tie as tie
 
-abbrev Inv-loop : tie.InvT-loop
-Inv-loop vertices₀ triangles₀ work₀ s corners rows cols numbers₀ nu nv flip st₀ i₀ vertices triangles work numbers st i =
-    (i ≤ nu)
-    × Runs (grid i nv flip (surfaceAt corners s)) (held st₀ vertices₀ triangles₀ work₀) (held st vertices triangles work)
-    × (length numbers ≡ length numbers₀)
-
-abbrev μ-loop : tie.MeasureT-loop
-μ-loop vertices₀ triangles₀ work₀ s corners rows cols numbers₀ nu nv flip st₀ i₀ vertices triangles work numbers st i = nu - i
-
-loop-holds : tie.Need-loop-holds Inv-loop μ-loop
-loop-holds c = let x = c .before .before .before .before .before .before .before in (zero-le, grid-none (x .args .flip) (surfaceAt (now (x .args .corners)) (x .args .s)) (x .args .nv) _ (x .pre .0), refl)
-
-weld-row-requires : tie.Need-weld-row-requires Inv-loop μ-loop
-weld-row-requires c κs =
-    let x = c .before .before .before .before .before .before .before .before .before .before .before .before .before in
-    let l = c .before .before .before .before .before .loop in
-    let t = c .before .before .before .before .loop-test .taken in (
-      l .inv .1 .ready,
+weld-column-requires : tie.Need-weld-column-requires
+weld-column-requires c κs =
+    let x = c .before .before .before .before .before .before .before .before .before .before .before in
+    let t = c .before .before .before .if1 .taken in (
+      x .pre .0,
       (
-        omega (arith, t, x .pre .1 .0),
-        x .pre .1 .1,
-        omega (arith, l .inv .2, x .pre .1 .2),
-        within-less (now (x .args .corners)) (x .args .s) (x .args .nu) (x .args .nv) (l .i + 1) (x .args .nv) (omega (arith, t)) (omega arith) (x .pre .1 .3),
-        tabled-less (x .args .s) (now (x .args .rows)) (now (x .args .cols)) (x .args .nu) (x .args .nv) (l .i + 1) (x .args .nv) (omega (arith, t)) (omega arith) (x .pre .1 .4),
+        x .pre .1 .0,
+        within-less (now (x .args .corners)) (x .args .s) (x .args .nu) (x .args .nv) (x .args .nu) 1 (omega arith) (omega (arith, t)) (x .pre .1 .3),
+        tabled-less (x .args .s) (now (x .args .rows)) (now (x .args .cols)) (x .args .nu) (x .args .nv) (x .args .nu) 1 (omega arith) (omega (arith, t)) (x .pre .1 .4),
       ),
     )
 
-add-i : tie.Need-add-i Inv-loop μ-loop
-add-i c = omega (
-  arith,
-  c .before .before .before .before .before .before .before .before .before .before .before .before .before .loop-test .taken,
-  c .before .before .before .before .before .before .before .before .before .before .before .before .before .before .before .before .before .before .before .before .before .before .pre .1 .0,
-)
+same-length : tie.Need-same-length
+same-length c = search needs
 
-loop-less : tie.Need-loop-less Inv-loop μ-loop
-loop-less c = omega (arith, c .before .before .before .before .before .before .before .before .before .before .before .before .before .loop-test .taken)
+same-length-2 : tie.Need-same-length-2
+same-length-2 c = search needs
 
-loop-again : tie.Need-loop-again Inv-loop μ-loop
-loop-again c =
-    let x = c .before .before .before .before .before .before .before .before .before .before .before .before .before .before .before .before .before .before .before .before .before .before in
-    let l = c .before .before .before .before .before .before .before .before .before .before .before .before .before .before .loop in (
-      omega (arith, c .before .before .before .before .before .before .before .before .before .before .before .before .before .loop-test .taken),
-      grid-more (x .args .flip) (surfaceAt (now (x .args .corners)) (x .args .s)) (l .i) (x .args .nv) _ _ _ (l .inv .1) (c .before .before .before .before .before .before .before .before .weld-row .ensures),
-      c .before .before .before .before .before .before .before .before .weld-row .kept .1 .1 .1 .1 .1 .1 .1 .1 .0 ∙ l .inv .2,
-    )
+same-length-3 : tie.Need-same-length-3
+same-length-3 c = search needs
 
-same-length : tie.Need-same-length Inv-loop μ-loop
-same-length c = c .before .loop .inv .1 .vlong
-
-same-length-2 : tie.Need-same-length-2 Inv-loop μ-loop
-same-length-2 c = c .before .loop .inv .1 .tlong
-
-same-length-3 : tie.Need-same-length-3 Inv-loop μ-loop
-same-length-3 c = c .before .loop .inv .1 .wlong
-
-same-length-4 : tie.Need-same-length-4 Inv-loop μ-loop
-same-length-4 c = c .before .loop .inv .2
-
-returns : tie.Need-returns Inv-loop μ-loop
+returns : tie.Need-returns
 returns c =
-    let x = c .before .before .before .before .before .before .before .before .before in
-    let e : c .before .loop .i ≡ x .args .nu = omega (arith, c .before .loop .inv .0, c .loop-test .left) in
-    runs-as (ap (λ (n : ℕ). grid n (x .args .nv) (x .args .flip) (surfaceAt (now (x .args .corners)) (x .args .s))) e) (c .before .loop .inv .1)
+    let x = c .before .before .before .before .before .before .before .before .before .before .before .before .before .before .before .before .before .before in
+    runs-as (ap (λ (n : ℕ). grid (x .args .nu) n (x .args .flip) (surfaceAt (now (x .args .corners)) (x .args .s))) (sym (c .before .before .before .before .before .before .before .before .before .before .if1 .taken))) (c .before .before .before .before .before .before .weld-column .ensures)
+
+weld-rows-requires : tie.Need-weld-rows-requires
+weld-rows-requires c κs = search needs
+
+same-length-4 : tie.Need-same-length-4
+same-length-4 c = search needs
+
+same-length-5 : tie.Need-same-length-5
+same-length-5 c = search needs
+
+same-length-6 : tie.Need-same-length-6
+same-length-6 c = search needs
+
+same-length-7 : tie.Need-same-length-7
+same-length-7 c = search needs
+
+returns-2 : tie.Need-returns-2
+returns-2 c = search needs
 
 pub weld-grid-spec : {M : Type 1} → statement M
 weld-grid-spec =
     tie.close
     (tie.spec
-    Inv-loop
-    μ-loop
-    loop-holds
-    weld-row-requires
-    add-i
-    loop-less
-    loop-again
+    weld-column-requires
     same-length
     same-length-2
     same-length-3
+    returns
+    weld-rows-requires
     same-length-4
-    returns)
+    same-length-5
+    same-length-6
+    same-length-7
+    returns-2)

@@ -17,7 +17,7 @@ use Rattle.grids.proofs.grid.weld_row.Statement.{statement}
 use Rattle.grids.proofs.grid.weld_row.Tie as tie
 
 abbrev Inv-loop : tie.InvT-loop
-Inv-loop vertices₀ triangles₀ work₀ s corners rows cols numbers₀ i nv flip st₀ a₀ b₀ na₀ nb₀ last₀ j₀ vertices triangles work numbers st a b na nb last j =
+Inv-loop vertices₀ triangles₀ work₀ s corners rows cols numbers₀ i nv flip st₀ a₀ first b₀ na₀ nb₀ last₀ j₀ vertices triangles work numbers st a b na nb last j =
     (j ≤ nv)
     × Runs (row j flip (surfaceAt corners s) i) (held st₀ vertices₀ triangles₀ work₀) (held st vertices triangles work)
     × (a ≡ surfaceAt corners s i j)
@@ -25,7 +25,7 @@ Inv-loop vertices₀ triangles₀ work₀ s corners rows cols numbers₀ i nv fl
     × (length numbers ≡ length numbers₀)
 
 abbrev μ-loop : tie.MeasureT-loop
-μ-loop vertices₀ triangles₀ work₀ s corners rows cols numbers₀ i nv flip st₀ a₀ b₀ na₀ nb₀ last₀ j₀ vertices triangles work numbers st a b na nb last j = nv - j
+μ-loop vertices₀ triangles₀ work₀ s corners rows cols numbers₀ i nv flip st₀ a₀ first b₀ na₀ nb₀ last₀ j₀ vertices triangles work numbers st a b na nb last j = nv - j
 
 fits-index : (n : ℕ) → n ≤ 1024 → Fits w64 (n * 8)
 fits-index n h = omega arith
@@ -93,14 +93,14 @@ slice-read-same-or c = omega (arith, c .before .before .before .loop-test .taken
 same-or-requires-2 : tie.Need-same-or-requires-2 Inv-loop μ-loop
 same-or-requires-2 c κs = search needs
 
+slice-read-last-corner : tie.Need-slice-read-last-corner Inv-loop μ-loop
+slice-read-last-corner c = omega (arith, c .before .before .before .before .before .before .loop .inv .4, c .before .before .before .before .before .before .before .before .before .before .before .before .before .before .before .before .before .before .pre .1 .2)
+
 onward-requires : tie.Need-onward-requires Inv-loop μ-loop
 onward-requires c κs = search needs
 
-same-or-requires-3 : tie.Need-same-or-requires-3 Inv-loop μ-loop
-same-or-requires-3 c κs = search needs
-
-same-or-requires-4 : tie.Need-same-or-requires-4 Inv-loop μ-loop
-same-or-requires-4 c κs = search needs
+last-corner-requires : tie.Need-last-corner-requires Inv-loop μ-loop
+last-corner-requires c κs = search needs
 
 weld-cell-requires : tie.Need-weld-cell-requires Inv-loop μ-loop
 weld-cell-requires c κs = c .before .before .before .before .before .before .before .before .before .before .before .loop .inv .1 .ready
@@ -175,9 +175,9 @@ weld-row-spec =
     mul-same-or
     slice-read-same-or
     same-or-requires-2
+    slice-read-last-corner
     onward-requires
-    same-or-requires-3
-    same-or-requires-4
+    last-corner-requires
     weld-cell-requires
     mul-numbers
     slice-write-numbers

@@ -9,7 +9,7 @@ use borrow.Author.Tests.{not-true, not-false}
 use Rattle.trimesh.specs.Mesh.{append}
 use Rattle.meshcheck.specs.declared.TriMesh.{TriMesh}
 use Rattle.meshcheck.specs.State.{state, meshOf, stored, isAccepted}
-use Rattle.meshcheck.specs.Refusals.{appendRefusal}
+use Rattle.appendcheck.specs.Append.{appendRefusal}
 use Rattle.mesh.specs.Edits.{appendOf}
 use Rattle.meshcheck.proofs.Stored.{stored-append}
 use Rattle.mesh.proofs.Given.{gives-kept, gives-done}

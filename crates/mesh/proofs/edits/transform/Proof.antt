@@ -13,7 +13,7 @@ use Rattle.transform.specs.Ops.{folded}
 use Rattle.balance.specs.Soup.{flip as flipTri}
 use Rattle.trimesh.specs.Mesh.{Mesh}
 use Rattle.meshcheck.specs.State.{State, state, meshOf, stored, isAccepted}
-use Rattle.meshcheck.specs.Refusals.{transformed, transformRefusal}
+use Rattle.movecheck.specs.Transform.{transformed, transformRefusal}
 use Rattle.mesh.specs.Edits.{transformOf}
 use Rattle.triples.specs.Triples.{eachTo, movedTriple}
 use Rattle.meshcheck.proofs.Stored.{stored-moved, stored-mirrored}

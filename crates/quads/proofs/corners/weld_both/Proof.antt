@@ -2,7 +2,7 @@
 use borrow.Author.Needs.{needs}
 use native.Mathlib.Omega.{arith}
 use mathlib.Core.Path.{_∙_}
-use Rattle.weld.proofs.Triangle.{linked-moved}
+use Rattle.welding.proofs.Triangle.{linked-moved}
 use Rattle.quads.proofs.Quads.{both-runs}
 use Rattle.quads.proofs.corners.weld_both.Statement.{statement}
 use Rattle.quads.proofs.corners.weld_both.Tie as tie

@@ -1,5 +1,6 @@
 -- `weld::foresight::foresee` meets its contract: a case for each way through. Assumes nothing.
 use borrow.Author.Needs.{needs}
+use native.Mathlib.Omega.{arith}
 use denote.Ref.{now}
 use Rattle.weld.proofs.InRows.{not-seen, first-seen}
 use Rattle.weld.proofs.foresight.foresee.Statement.{statement}
@@ -26,7 +27,7 @@ unknown-requires : tie.Need-unknown-requires
 unknown-requires c κs = search needs
 
 returns-3 : tie.Need-returns-3
-returns-3 c = let s = c .before .before .before .before .before in not-seen (s .args .w) (now (s .args .vertices)) (s .args .p) (c .unknown .result) (c .unknown .ensures)
+returns-3 c = let s = c .before .before .before .before .before in not-seen (s .args .w) (now (s .args .vertices)) (s .args .p) (c .unknown .result) (c .unknown .ensures) (omega (arith, s .pre .0 .based, c .before .before .if1 .left))
 
 pub foresee-spec : {M : Type 1} → statement M
 foresee-spec =

@@ -1,7 +1,7 @@
 -- `weld::points::plus_zero` meets its contract. Assumes nothing.
 use mathlib.Core.Path.{refl}
 use Rattle.trimesh.specs.Mesh.{plusZeroV}
-use Rattle.chain.proofs.Clean.{clean-after}
+use Rattle.stored.proofs.Clean.{clean-after}
 use Rattle.weld.proofs.points.plus_zero.Statement.{statement}
 use Rattle.weld.proofs.points.plus_zero.Tie as tie
 

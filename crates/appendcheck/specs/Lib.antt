@@ -1,0 +1,2 @@
+-- What the contract of `appendcheck` cites: the refusals of `append`.
+pub mod Append

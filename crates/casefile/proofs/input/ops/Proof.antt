@@ -1,0 +1,69 @@
+-- `casefile::input::ops` is safe and ends. Assumes nothing.
+use mathlib.Core.Path.{_≡_, refl}
+use native.Mathlib.Omega.{arith}
+use Prim.Native.Nat.{_≤_, _-_, _*_}
+use lib.ListN.{length, length-set}
+use borrow.Author.Needs.{needs}
+use Rattle.casefile.proofs.input.ops.Statement.{statement}
+use Rattle.casefile.proofs.input.ops.Tie as tie
+use Rattle.casefile.proofs.input.ops.Reads as reads
+use Rattle.casefile.proofs.input.ops.Lts as lts
+use Rattle.cases.proofs.op_at.Reads as op-at-reads
+use Rattle.casefile.proofs.input.least.Reads as least-reads
+
+abbrev Inv-loop : tie.InvT-loop
+Inv-loop b count out₀ n i₀ out i = (i ≤ n) × (n ≤ 16) × (136 * n ≤ length b) × (length out ≡ 16)
+
+abbrev μ-loop : tie.MeasureT-loop
+μ-loop b count out₀ n i₀ out i = n - i
+
+least-requires : tie.Need-least-requires Inv-loop μ-loop
+least-requires c κs = tt
+
+least-requires-2 : tie.Need-least-requires-2 Inv-loop μ-loop
+least-requires-2 c κs = tt
+
+loop-holds : tie.Need-loop-holds Inv-loop μ-loop
+loop-holds c = (omega arith, omega arith, omega arith, omega arith)
+
+mul-op-at : tie.Need-mul-op-at Inv-loop μ-loop
+mul-op-at c = omega arith
+
+op-at-requires : tie.Need-op-at-requires Inv-loop μ-loop
+op-at-requires c κs = omega arith
+
+mul-out : tie.Need-mul-out Inv-loop μ-loop
+mul-out c = omega arith
+
+array-set-from-out : tie.Need-array-set-from-out Inv-loop μ-loop
+array-set-from-out c = omega arith
+
+add-i : tie.Need-add-i Inv-loop μ-loop
+add-i c = omega arith
+
+loop-less : tie.Need-loop-less Inv-loop μ-loop
+loop-less c = omega arith
+
+loop-again : tie.Need-loop-again Inv-loop μ-loop
+loop-again c = (omega arith, omega arith, omega arith, simp length-set (omega arith))
+
+returns : tie.Need-returns Inv-loop μ-loop
+returns c = tt
+
+pub ops-spec : {M : Type 1} → statement M
+ops-spec =
+    tie.close
+    (tie.spec
+    Inv-loop
+    μ-loop
+    least-requires
+    least-requires-2
+    loop-holds
+    mul-op-at
+    op-at-requires
+    mul-out
+    array-set-from-out
+    add-i
+    loop-less
+    loop-again
+    returns)

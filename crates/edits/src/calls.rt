@@ -1,0 +1,141 @@
+// The calls: each runs the library on the slices that it is lent, and writes the result.
+use crate::written::edited;
+use casefile::filling::fill_words;
+use casefile::loading::load_floats;
+use casefile::loading::load_words;
+use casefile::output;
+use cases::Head;
+use mesh::Edited;
+use mesh::TriMesh;
+use refusal::Refusal;
+use transform::TransformOp;
+
+// The counts of A after a call, and whether its result was written.
+pub struct Answer {
+    pub mesh: TriMesh,
+    pub written: bool,
+}
+
+fn wide(x: u32) -> usize {
+    x as usize
+}
+
+// Writes an edited mesh.
+fn answered(e: Edited, vertices: &[f64], triangles: &[u32]) -> Answer {
+    let m = e.mesh;
+    Answer {
+        mesh: m,
+        written: edited(e, vertices, triangles),
+    }
+}
+
+pub fn clip(list: &[f64], triangles: &mut [u32]) -> bool {
+    fill_words(triangles);
+    let c = clipping::clip_outline(list, triangles);
+    let why = c.refusal;
+    if !output::three_words(
+        refusal::number(why),
+        output::count(c.triangles),
+        output::count(c.removed),
+    ) {
+        return false;
+    }
+    output::words(triangles)
+}
+
+// Appends the other mesh to the first.
+pub fn append(
+    m: TriMesh,
+    vertices: &mut [f64],
+    triangles: &mut [u32],
+    other: TriMesh,
+    other_vertices: &[f64],
+    other_triangles: &[u32],
+) -> Answer {
+    let e = mesh::append(
+        m,
+        vertices,
+        triangles,
+        other,
+        other_vertices,
+        other_triangles,
+    );
+    answered(e, vertices, triangles)
+}
+
+pub fn flip(m: TriMesh, vertices: &[f64], triangles: &mut [u32]) -> Answer {
+    let e = mesh::flip(m, vertices, triangles);
+    answered(e, vertices, triangles)
+}
+
+pub fn transform(
+    m: TriMesh,
+    vertices: &mut [f64],
+    triangles: &mut [u32],
+    ops: [TransformOp; 16],
+    op_count: usize,
+    degrees: bool,
+) -> Answer {
+    let e = mesh::transform(m, vertices, triangles, ops, op_count, degrees);
+    answered(e, vertices, triangles)
+}
+
+// The refusal that all four measures agree on, else 255.
+fn agreed(a: u32, b: u32, c: u32, d: u32) -> u32 {
+    if a != b {
+        return 255;
+    }
+    if a != c {
+        return 255;
+    }
+    if a != d {
+        return 255;
+    }
+    a
+}
+
+pub fn measure(m: TriMesh, vertices: &[f64], triangles: &[u32]) -> bool {
+    let volume = mesh::signed_volume(m, vertices, triangles);
+    let enclosed = mesh::enclosed_volume(m, vertices, triangles);
+    let area = mesh::area(m, vertices, triangles);
+    let boxed = mesh::bounding_box(m, vertices, triangles);
+    let p = volume.refusal;
+    let q = enclosed.refusal;
+    let r = area.refusal;
+    let s = boxed.refusal;
+    let why = agreed(
+        refusal::number(p),
+        refusal::number(q),
+        refusal::number(r),
+        refusal::number(s),
+    );
+    let bounds = boxed.bounds;
+    output::measured(why, volume.bits, enclosed.bits, area.bits, bounds)
+}
+
+// Loads both slices.
+fn load_both(h: Head, vertices: &mut [f64], triangles: &mut [u32]) -> bool {
+    if !load_floats(vertices, wide(h.list_floats)) {
+        return false;
+    }
+    load_words(triangles, wide(h.loaded_numbers))
+}
+
+// Loads a mesh from the input, with the counts claimed.
+pub fn load(h: Head, vertices: &mut [f64], triangles: &mut [u32]) -> Answer {
+    let m = TriMesh {
+        vertices: wide(h.vertex_count),
+        triangles: wide(h.triangle_count),
+    };
+    if !load_both(h, vertices, triangles) {
+        return Answer {
+            mesh: m,
+            written: false,
+        };
+    }
+    let e = Edited {
+        refusal: Refusal::Accepted,
+        mesh: m,
+    };
+    answered(e, vertices, triangles)
+}

@@ -1,0 +1,2 @@
+-- Laws of the box, for the proofs of `extents`.
+pub mod Including

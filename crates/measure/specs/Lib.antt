@@ -1,2 +1,0 @@
--- What the contracts of `measure` cite.
-pub mod ZeroBox

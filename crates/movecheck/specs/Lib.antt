@@ -1,0 +1,2 @@
+-- What the contracts of `movecheck` cite: the refusals of `transform`.
+pub mod Transform

@@ -1,0 +1,59 @@
+// Which refusal `transform` answers, in document 01's order: 8, 4, 1, 2, and where there are operations 5. Nothing is written here.
+ghost use mathlib.Core.Path.{_≡_};
+ghost use Prim.Native.Nat.{_*_};
+ghost use lib.ListN.{take};
+ghost use Rattle.trimesh.specs.Slices.{points};
+ghost use Rattle.affine.specs.Affine.{Tested};
+ghost use Rattle.meshcheck.specs.State.{state};
+ghost use Rattle.movecheck.specs.Transform.{moveRefusal, transformRefusal};
+use meshcheck::TriMesh;
+use refusal::Refusal;
+use transform::TransformOp;
+
+// What is left of a transform's refusals after 8, 4 and 1: 2, and where there are operations 5.
+fn move_refusal(
+    vertices: &[f64],
+    n: usize,
+    small: bool,
+    ops: [TransformOp; 16],
+    op_count: usize,
+    degrees: bool,
+) -> Refusal
+    requires { ⌜ Tested (now vertices) n small ⌝ }
+    ensures { λ r. ⌜ r ≡ moveRefusal ops «op_count» degrees (points (take (3 * n) (now (vertices .entry)))) ⌝ }
+{
+    if !opcheck::ops_angles_within(ops, op_count, degrees) {
+        return Refusal::AngleTooLarge;
+    }
+    if op_count == 0 {
+        return Refusal::Accepted;
+    }
+    if !moves::keep_finite(vertices, n, transform::fold(ops, op_count, degrees), small) {
+        return Refusal::PointNotFinite;
+    }
+    Refusal::Accepted
+}
+
+pub fn transform_refusal(
+    mesh: TriMesh,
+    vertices: &[f64],
+    triangles: &[u32],
+    ops: [TransformOp; 16],
+    op_count: usize,
+    degrees: bool,
+) -> Refusal
+    ensures { λ r. ⌜ r ≡ transformRefusal ops «op_count» degrees (state mesh (now (vertices .entry)) (now (triangles .entry))) ⌝ }
+{
+    let n = mesh.vertices;
+    if meshcheck::bad_mesh(mesh, vertices, triangles) {
+        return Refusal::BadMesh;
+    }
+    if !opcheck::op_count_within(op_count) {
+        return Refusal::BadList;
+    }
+    let small = bounded::all_within(vertices, 3 * n);
+    if !(bounded::all_finite(vertices, 3 * n, small) & opfinite::ops_finite(ops, op_count)) {
+        return Refusal::NotFinite;
+    }
+    move_refusal(vertices, n, small, ops, op_count, degrees)
+}

@@ -1,0 +1,2 @@
+-- What the contracts of `products` cite beside the definitions of `matrix`.
+pub mod Pieces

@@ -1,0 +1,53 @@
+-- Points after `+ 0.0`: they are clean, and two clean points that are equal as floats are equal as data. Assumes nothing.
+use mathlib.Core.Path.{_≡_, sym, ap, _∙_, subst}
+use mathlib.Core.Bool.{true, _&&_}
+use lib.Dec.{T}
+use lib.Ieee.{Float, fits, eq, add, ofBits, binary64}
+use lib.Ieee.Fits.{add-fits, and-l, and-r}
+use lib.Ieee.Scale.{finite}
+use Rattle.ieee.specs.Same.{canon, plus-zero, canon-finite, canon-canon, same→canon, eq→same, true-T, T-true, finite-not-nan, eq-refl}
+use Rattle.math.specs.declared.Vec3.{Vec3}
+use Rattle.trimesh.specs.Mesh.{samePoint, plusZeroV, finiteV}
+use Rattle.trimesh.specs.SelfSame.{zero-bits}
+use Rattle.stored.specs.Points.{CleanFloat, Clean}
+
+pub eq-data : (x y : Float) → CleanFloat x → CleanFloat y → T (eq x y) → x ≡ y
+eq-data x y a b e = sym (a .canonical) ∙ same→canon x y (eq→same binary64 x y (a .fit) (b .fit) e) ∙ b .canonical
+
+pub same-data : (p q : Vec3) → Clean p → Clean q → samePoint p q ≡ true → p ≡ q
+unfolding samePoint
+same-data p q a b h =
+    let t : T (samePoint p q) = true-T (samePoint p q) h in
+    let xy : T (eq (p .x) (q .x) && eq (p .y) (q .y)) = and-l (eq (p .x) (q .x) && eq (p .y) (q .y)) (eq (p .z) (q .z)) t in
+    λ i. record {
+      x = eq-data (p .x) (q .x) (a .cx) (b .cx) (and-l (eq (p .x) (q .x)) (eq (p .y) (q .y)) xy) i;
+      y = eq-data (p .y) (q .y) (a .cy) (b .cy) (and-r (eq (p .x) (q .x)) (eq (p .y) (q .y)) xy) i;
+      z = eq-data (p .z) (q .z) (a .cz) (b .cz) (and-r (eq (p .x) (q .x) && eq (p .y) (q .y)) (eq (p .z) (q .z)) t) i;
+    }
+
+plus-clean : (x : Float) → T (fits binary64 x) → T (finite x) → CleanFloat (add binary64 x (ofBits binary64 0))
+plus-clean x f t =
+    let e : add binary64 x (ofBits binary64 0) ≡ canon x = ap (add binary64 x) zero-bits ∙ plus-zero binary64 x f in
+    record {
+      fit = add-fits binary64 x (ofBits binary64 0);
+      finitely = subst (λ (y : Float). T (finite y)) (sym e) (canon-finite x t);
+      canonical = ap canon e ∙ canon-canon x ∙ sym e;
+    }
+
+pub clean-after : (p : Vec3) → T (fits binary64 (p .x)) → T (fits binary64 (p .y)) → T (fits binary64 (p .z)) → finiteV p ≡ true → Clean (plusZeroV p)
+unfolding plusZeroV
+clean-after p a b c h =
+    let t : T (finiteV p) = true-T (finiteV p) h in
+    let xy : T (finite (p .x) && finite (p .y)) = and-l (finite (p .x) && finite (p .y)) (finite (p .z)) t in
+    record {
+      cx = plus-clean (p .x) a (and-l (finite (p .x)) (finite (p .y)) xy);
+      cy = plus-clean (p .y) b (and-r (finite (p .x)) (finite (p .y)) xy);
+      cz = plus-clean (p .z) c (and-r (finite (p .x) && finite (p .y)) (finite (p .z)) t);
+    }
+
+-- a clean point equals itself
+pub clean-self : (p : Vec3) → Clean p → samePoint p p ≡ true
+unfolding samePoint
+clean-self p c =
+    let e : (x : Float) → CleanFloat x → eq x x ≡ true = λ x h. T-true (eq x x) (eq-refl x (finite-not-nan x (h .finitely))) in
+    λ i. e (p .x) (c .cx) i && e (p .y) (c .cy) i && e (p .z) (c .cz) i

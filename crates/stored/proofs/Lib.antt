@@ -1,0 +1,3 @@
+-- Laws of points, for the proofs of the crates above.
+pub mod Clean
+pub mod Places

@@ -1,0 +1,2 @@
+-- What the contracts of `stored` cite.
+pub mod Points

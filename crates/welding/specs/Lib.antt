@@ -1,0 +1,2 @@
+-- What the contracts of `welding` cite.
+pub mod Steps
