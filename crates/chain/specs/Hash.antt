@@ -36,7 +36,7 @@ pub record Stored (vs : List Float) (places base count : ℕ) : Type 0 where
   pub clean : (m : ℕ) → m < count → Clean (vertexAt vs m)
   pub fresh : (j m : ℕ) → base ≤ j → j < m → m < count → samePoint (vertexAt vs j) (vertexAt vs m) ≡ true → ⊥
 
--- h is l as far as vertices from base on are concerned: both are l, or both lead to earlier ones
+-- h and l name the same vertex from base on (by one more than its number), or each an earlier one or none
 pub record Agrees (base h l : ℕ) : Type 0 where
   pub above : base < l → h ≡ l
   pub below : l ≤ base → h ≤ base
