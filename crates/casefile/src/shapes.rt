@@ -1,12 +1,17 @@
 // The shape of a case, and its coordinate systems.
+ghost use mathlib.Core.Path.{_≡_};
 ghost use Prim.Native.Nat.{_≤_};
 ghost use lib.ListN.{length};
+ghost use Rattle.casefile.specs.Shapes.{systemOf, ownSystemOf, solidOf, shapeOf};
 use cases::Head;
 use shape::CoordSystem;
 use shape::OwnSystem;
 use shape::Shape;
 
-pub fn system(x: u8) -> CoordSystem {
+// The default system.
+pub fn system(x: u8) -> CoordSystem
+    ensures { λ r. ⌜ r ≡ systemOf x ⌝ }
+{
     if x == 1 {
         CoordSystem::Cylindrical
     } else {
@@ -14,7 +19,10 @@ pub fn system(x: u8) -> CoordSystem {
     }
 }
 
-pub fn own_system(x: u8) -> OwnSystem {
+// The system of its own, or none.
+pub fn own_system(x: u8) -> OwnSystem
+    ensures { λ r. ⌜ r ≡ ownSystemOf x ⌝ }
+{
     if x == 0 {
         return OwnSystem::Inherited;
     }
@@ -24,9 +32,10 @@ pub fn own_system(x: u8) -> OwnSystem {
     OwnSystem::Own(CoordSystem::Cylindrical)
 }
 
-// The shapes with points. Its numbers start at byte 48 of the head.
+// A shape with points. Its numbers start at byte 48 of the head.
 fn solid(kind: u8, head: &[u8]) -> Shape
     requires { ⌜ 128 ≤ length (now head) ⌝ }
+    ensures { λ r. ⌜ r ≡ solidOf kind (now (head .entry)) ⌝ }
 {
     let p = cases::vec_at(head, 48);
     let q = cases::vec_at(head, 72);
@@ -58,6 +67,7 @@ fn solid(kind: u8, head: &[u8]) -> Shape
 // The shape of a case.
 pub fn shape_of(h: Head, head: &[u8]) -> Shape
     requires { ⌜ 128 ≤ length (now head) ⌝ }
+    ensures { λ r. ⌜ r ≡ shapeOf h (now (head .entry)) ⌝ }
 {
     let kind = h.shape;
     let p = cases::vec_at(head, 48);

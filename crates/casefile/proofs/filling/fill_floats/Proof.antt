@@ -1,17 +1,17 @@
--- `casefile::filling::fill_floats` is safe and ends. Assumes nothing.
-use mathlib.Core.Path.{_≡_, refl}
+-- `casefile::filling::fill_floats` meets its contract. Assumes nothing.
+use mathlib.Core.Path.{_∙_, ap}
+use lib.Ieee.{Float}
+use denote.Ref.{now}
+use Prim.Native.Nat.{_-_}
 use native.Mathlib.Omega.{arith}
-use Prim.Native.Nat.{_≤_, _-_, _*_}
 use lib.ListN.{length, length-set}
-use borrow.Author.Needs.{needs}
+use Rattle.slices.proofs.Clearing.{Clearing, clearing-none, clearing-more, clearing-done}
+use Rattle.casefile.specs.Filling.{filled}
 use Rattle.casefile.proofs.filling.fill_floats.Statement.{statement}
 use Rattle.casefile.proofs.filling.fill_floats.Tie as tie
-use Rattle.casefile.proofs.filling.fill_floats.Reads as reads
-use Rattle.casefile.proofs.filling.fill_floats.Lts as lts
-use Rattle.words.proofs.from_bits.Reads as from-bits-reads
 
 abbrev Inv-loop : tie.InvT-loop
-Inv-loop out₀ x i₀ out i = (i ≤ length out₀) × (length out ≡ length out₀)
+Inv-loop out₀ x i₀ out i = Clearing x 0 out₀ out i
 
 abbrev μ-loop : tie.MeasureT-loop
 μ-loop out₀ x i₀ out i = length out₀ - i
@@ -20,7 +20,7 @@ from-bits-requires : tie.Need-from-bits-requires Inv-loop μ-loop
 from-bits-requires c κs = tt
 
 loop-holds : tie.Need-loop-holds Inv-loop μ-loop
-loop-holds c = (omega arith, refl)
+loop-holds c = clearing-none (c .from-bits .result) 0 (now (c .before .before .args .out))
 
 mul-out : tie.Need-mul-out Inv-loop μ-loop
 mul-out c = omega arith
@@ -35,26 +35,25 @@ loop-less : tie.Need-loop-less Inv-loop μ-loop
 loop-less c = omega arith
 
 loop-again : tie.Need-loop-again Inv-loop μ-loop
-loop-again c = (omega arith, simp length-set (omega arith))
+loop-again c =
+    let l = c .before .loop in
+    let s = c .before .before in
+    record {
+      from = omega arith;
+      within = omega arith;
+      same = simp length-set (l .inv .same);
+      is = clearing-more (s .from-bits .result) 0 (now (s .before .before .args .out)) _ (l .i) (l .inv) (omega arith);
+    }
 
 same-length : tie.Need-same-length Inv-loop μ-loop
-same-length c = omega arith
+same-length c = c .before .loop .inv .same
 
 returns : tie.Need-returns Inv-loop μ-loop
-returns c = tt
+returns c =
+    let l = c .before .loop in
+    let s = c .before .before in
+    let v = now (s .before .before .args .out) in
+    clearing-done (s .from-bits .result) 0 v _ (l .i) (l .inv) (omega arith) ∙ ap (λ (x : Float). filled x v) (s .from-bits .ensures)
 
 pub fill-floats-spec : {M : Type 1} → statement M
-fill-floats-spec =
-    tie.close
-    (tie.spec
-    Inv-loop
-    μ-loop
-    from-bits-requires
-    loop-holds
-    mul-out
-    slice-write-out
-    add-i
-    loop-less
-    loop-again
-    same-length
-    returns)
+fill-floats-spec = tie.close (tie.spec Inv-loop μ-loop from-bits-requires loop-holds mul-out slice-write-out add-i loop-less loop-again same-length returns)

@@ -1,22 +1,21 @@
--- `casefile::filling::fill_words` is safe and ends. Assumes nothing.
-use mathlib.Core.Path.{_≡_, refl}
+-- `casefile::filling::fill_words` meets its contract. Assumes nothing.
+use denote.Ref.{now}
+use Prim.Native.Nat.{_-_}
 use native.Mathlib.Omega.{arith}
-use Prim.Native.Nat.{_≤_, _-_, _*_}
 use lib.ListN.{length, length-set}
-use borrow.Author.Needs.{needs}
+use Rattle.slices.proofs.Clearing.{Clearing, clearing-none, clearing-more, clearing-done}
+use Rattle.casefile.specs.Filling.{wordA5}
 use Rattle.casefile.proofs.filling.fill_words.Statement.{statement}
 use Rattle.casefile.proofs.filling.fill_words.Tie as tie
-use Rattle.casefile.proofs.filling.fill_words.Reads as reads
-use Rattle.casefile.proofs.filling.fill_words.Lts as lts
 
 abbrev Inv-loop : tie.InvT-loop
-Inv-loop out₀ i₀ out i = (i ≤ length out₀) × (length out ≡ length out₀)
+Inv-loop out₀ i₀ out i = Clearing wordA5 0 out₀ out i
 
 abbrev μ-loop : tie.MeasureT-loop
 μ-loop out₀ i₀ out i = length out₀ - i
 
 loop-holds : tie.Need-loop-holds Inv-loop μ-loop
-loop-holds c = (omega arith, refl)
+loop-holds c = clearing-none wordA5 0 (now (c .args .out))
 
 mul-out : tie.Need-mul-out Inv-loop μ-loop
 mul-out c = omega arith
@@ -31,25 +30,22 @@ loop-less : tie.Need-loop-less Inv-loop μ-loop
 loop-less c = omega arith
 
 loop-again : tie.Need-loop-again Inv-loop μ-loop
-loop-again c = (omega arith, simp length-set (omega arith))
+loop-again c =
+    let l = c .before .loop in
+    record {
+      from = omega arith;
+      within = omega arith;
+      same = simp length-set (l .inv .same);
+      is = clearing-more wordA5 0 (now (c .before .before .args .out)) _ (l .i) (l .inv) (omega arith);
+    }
 
 same-length : tie.Need-same-length Inv-loop μ-loop
-same-length c = omega arith
+same-length c = c .before .loop .inv .same
 
 returns : tie.Need-returns Inv-loop μ-loop
-returns c = tt
+returns c =
+    let l = c .before .loop in
+    clearing-done wordA5 0 (now (c .before .before .args .out)) _ (l .i) (l .inv) (omega arith)
 
 pub fill-words-spec : {M : Type 1} → statement M
-fill-words-spec =
-    tie.close
-    (tie.spec
-    Inv-loop
-    μ-loop
-    loop-holds
-    mul-out
-    slice-write-out
-    add-i
-    loop-less
-    loop-again
-    same-length
-    returns)
+fill-words-spec = tie.close (tie.spec Inv-loop μ-loop loop-holds mul-out slice-write-out add-i loop-less loop-again same-length returns)

@@ -1,0 +1,2 @@
+-- Laws that the proofs of `casefile` use.
+pub mod ByKind

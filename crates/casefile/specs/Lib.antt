@@ -1,0 +1,3 @@
+-- What the contracts of `casefile` cite.
+pub mod Filling
+pub mod Shapes
