@@ -84,7 +84,7 @@ loop-again c =
     let p = c .before .before .before .before .before .before .before .before .before .before .before .before .before .before .surface-point3 .ensures in
     let q = c .before .before .before .before .before .before .before .before .before .before .before .before .before .surface-point4 .ensures in (
       omega (arith, c .before .before .before .before .before .before .before .before .before .before .before .before .before .before .before .loop-test .taken),
-      column-more (x .args .flip) (surfaceAt (now (x .args .corners)) (x .args .s)) (l .i) _ _ _ _ _ _ _ (l .inv .2) p q (l .inv .3) (l .inv .1) (c .before .before .before .before .before .before .before .weld-cell .ensures),
+      column-more (x .args .flip) (surfaceAt (now (x .args .corners)) (x .args .s)) (l .i) _ _ _ _ _ _ _ (l .inv .2) p q (l .inv .3) (l .inv .1) (c .before .before .before .before .before .before .before .weld-cell .ensures .runs),
       p,
       q,
     )
