@@ -12,11 +12,7 @@ use Rattle.welding.specs.declared.Welded.{Welded}
 use Rattle.weld.specs.Rep.{Held}
 use Rattle.quads.specs.declared.Quad.{Quad}
 use Rattle.quads.specs.Quads.{Known, Numbered, quadWith, LastRuns}
-use Rattle.cells.specs.Cell.{turned}
-
--- a quad with its second and fourth number exchanged
-abbrev pub exchanged : Quad → Quad
-exchanged q = record { st = q .st; a = q .a; b = q .d; c = q .c; d = q .b }
+use Rattle.cells.specs.Cell.{turned, exchanged}
 
 module _ (a b c d : Vec3) (h : Held) (q : Quad) (vs : List Float) (ts ws : List ℕ) where
   exchange : (soup : List (Tri Vec3)) → Numbered soup a d c b h q vs ts ws → Numbered soup a b c d h (exchanged q) vs ts ws

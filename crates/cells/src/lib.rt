@@ -5,12 +5,16 @@ ghost use mathlib.Core.Bool.{true, cond};
 ghost use Rattle.weld.specs.Rep.{held, Ready};
 ghost use Rattle.quads.specs.Quads.{Known, Numbered};
 ghost use Rattle.cells.specs.Cell.{turned};
+
+mod column;
+
+pub use column::weld_in_column;
 use math::Vec3;
 use quads::Quad;
 use weld::Welder;
 
 // One cell: the quad a, b, c, d, or where flip says so a, d, c, b. The last four arguments are guesses at the numbers of a, b, c and d.
-pub fn weld_cell(
+fn weld_cell(
     vertices: &mut [f64],
     triangles: &mut [u32],
     work: &mut [u32],

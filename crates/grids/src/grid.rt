@@ -85,7 +85,7 @@ fn weld_row(
     st
 }
 
-// Soup::grid with one column over a surface. The last two points of a cell are the first two of the next.
+// Soup::grid with one column over a surface. The last two points of a cell are the first two of the next, where their numbers are known.
 fn weld_column(
     vertices: &mut [f64],
     triangles: &mut [u32],
@@ -115,12 +115,13 @@ fn weld_column(
         let c = surfaces::surface_point(s, corners, rows, cols, i + 1, 1);
         let nb = guesses::same_or(b, a, na, st.count);
         let nc = guesses::same_or(c, d, nd, st.count);
-        let q = cells::weld_cell(
+        let q = cells::weld_in_column(
             vertices,
             triangles,
             work,
             st,
             flip,
+            0 < i,
             a,
             b,
             c,

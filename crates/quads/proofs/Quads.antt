@@ -2,6 +2,7 @@
 use mathlib.Core.Path.{_≡_, refl, sym, ap, _∙_, subst}
 use mathlib.Core.Bool.{Bool, true, false, _&&_}
 use mathlib.Core.List.{List, [], _∷_}
+use mathlib.Core.Logic.{_⊎_, inl, inr}
 use Prim.Native.Nat.{ℕ, _≤_, _<_, _^_}
 use native.Mathlib.Omega.{arith}
 use lib.Dec.{T}
@@ -45,7 +46,16 @@ quad-finite true true false w = refl
 quad-finite true true true false = refl
 quad-finite true true true true = refl
 
--- a point is not finite: nothing is written
+-- a point is not finite
+pub one-false : (x y z w : Bool) → (y ≡ false) ⊎ ((z ≡ false) ⊎ (w ≡ false)) → (x && y && z && w) ≡ false
+one-false false y z w e = refl
+one-false true y z w (inl e) = rw e
+one-false true false z w (inr e) = refl
+one-false true true z w (inr (inl e)) = rw e
+one-false true true false w (inr (inr e)) = refl
+one-false true true true w (inr (inr e)) = e
+
+-- where a point is not finite, nothing is written
 pub quad-stops : (w : Welder) (vs : List Float) (ts ws : List ℕ) (a b c d : Vec3) → Ready (held w vs ts ws) → (finiteV a && finiteV b && finiteV c && finiteV d) ≡ false
     → Runs ((a, b, c) ∷ (a, c, d) ∷ []) (held w vs ts ws) (held (unfinite w) vs ts ws)
 unfolding everyFinite
@@ -126,7 +136,7 @@ quad-numbered a b c d a′ b′ c′ d′ h q vs ts ws fa fb fc fd ea eb ec ed P
     }
 
 -- ---- each point of a quad gets its number
-first-moved : {vs : List Float} {p : Vec3} {m : ℕ} (w r : Welder) → r .base ≡ w .base → r .count ≡ w .count → FirstAt vs (w .base) (w .count) p m → FirstAt vs (r .base) (r .count) p m
+pub first-moved : {vs : List Float} {p : Vec3} {m : ℕ} (w r : Welder) → r .base ≡ w .base → r .count ≡ w .count → FirstAt vs (w .base) (w .count) p m → FirstAt vs (r .base) (r .count) p m
 first-moved w r b c F = rw (b, c) F
 
 pub both-runs : (a b c d : Vec3) (w : Welder) (vs : List Float) (ts ws : List ℕ) (pa : Welded) (vs₁ : List Float) (ws₁ : List ℕ) (pb : Welded) (vs₂ : List Float) (ws₂ : List ℕ)
@@ -173,13 +183,8 @@ module _ (w : Welder) (vs : List Float) (ts ws : List ℕ) (R : Ready (held w vs
       (point-known u vs′ ws′ (plusZeroV d) nd L₁ sd (λ q. first-moved (t .st) u (T₁ .base) (T₁ .count) (P .stays (T₁ .sticky q) (plusZeroV d) nd (D .first f e))))
       T₂ lv refl lt lt₂ lw refl)
 
-pub third-false : (x y z w : Bool) → z ≡ false → (x && y && z && w) ≡ false
-third-false true true z w e = rw e
-third-false true false z w e = refl
-third-false false y z w e = refl
-
 pub last-stops : (w : Welder) (vs : List Float) (ts ws : List ℕ) → Ready (held w vs ts ws) → (c : Vec3) (na nb nd : ℕ) → finiteV c ≡ false
     → LastRuns c na nb nd (held w vs ts ws) (record { number = 0; st = unfinite w }) vs ts ws
 last-stops w vs ts ws R c na nb nd n a b d A B D =
     numbered-stopped (quad a b c d) a b c d (held w vs ts ws) (quadWith (record { number = 0; st = unfinite w }) na nb nd) vs ts ws refl
-    (quad-stops w vs ts ws a b c d R (third-false (finiteV a) (finiteV b) (finiteV c) (finiteV d) n))
+    (quad-stops w vs ts ws a b c d R (one-false (finiteV a) (finiteV b) (finiteV c) (finiteV d) (inr (inl n))))
