@@ -10,7 +10,7 @@ use Rattle.math.specs.Vec.{axis}
 use Rattle.weld.specs.declared.Welder.{Welder}
 use Rattle.weld.specs.Rep.{Linked}
 use Rattle.weld.proofs.Places.{places-limit}
-use Rattle.grids.specs.Cell.{turned}
+use Rattle.cells.specs.Cell.{turned}
 use Rattle.soups.specs.declared.Chart.the-variants.{Cartesian}
 use Rattle.soups.specs.Grid.{Soup, grid}
 use Rattle.soups.specs.ParamBox.{three, coord, facePoint, face}

@@ -4,7 +4,7 @@ ghost use mathlib.Core.Bool.{false, not};
 ghost use Prim.Native.Nat.{_<_, _^_};
 ghost use Rattle.math.specs.Vec.{axis};
 ghost use Rattle.weld.specs.Rep.{held, Ready, Runs};
-ghost use Rattle.grids.specs.Cell.{turned};
+ghost use Rattle.cells.specs.Cell.{turned};
 ghost use Rattle.soups.specs.declared.Chart.the-variants.{Cartesian};
 ghost use Rattle.soups.specs.ParamBox as Box;
 ghost use Rattle.soups.specs.ParamBox.{three};

@@ -1,7 +1,7 @@
 -- One more cell of a row, and one more row of a grid. Assumes nothing.
 use mathlib.Core.Path.{_≡_, refl, sym, ap, _∙_}
 use mathlib.Core.Bool.{Bool, true, false}
-use mathlib.Core.List.{List, [], _∷_, _++_}
+use mathlib.Core.List.{_++_}
 use Prim.Native.Nat.{ℕ, _+_}
 use Rattle.math.specs.declared.Vec3.{Vec3}
 use Rattle.balance.specs.Grid.{upto}
@@ -9,7 +9,7 @@ use Rattle.balance.specs.Buffer.{upto-more}
 use Rattle.weld.specs.Rep.{Held, Ready, Runs}
 use Rattle.weld.specs.Runs.{runs-none, runs-then, runs-as}
 use Rattle.soups.specs.Grid.{Soup, cell, row, grid}
-use Rattle.grids.specs.Cell.{turned}
+use Rattle.cells.specs.Cell.{turned}
 
 cell-turned : (flip : Bool) (f : ℕ → ℕ → Vec3) (i j : ℕ) → turned flip (f i j) (f (i + 1) j) (f (i + 1) (j + 1)) (f i (j + 1)) ≡ cell flip f i j
 cell-turned true f i j = refl
@@ -18,13 +18,6 @@ cell-turned false f i j = refl
 turned-as : (flip : Bool) (a b c d x y z w : Vec3) → a ≡ x → b ≡ y → c ≡ z → d ≡ w → turned flip a b c d ≡ turned flip x y z w
 turned-as flip a b c d x y z w p q r s =
     ap (λ (v : Vec3). turned flip v b c d) p ∙ ap (λ (v : Vec3). turned flip x v c d) q ∙ ap (λ (v : Vec3). turned flip x y v d) r ∙ ap (turned flip x y z) s
-
--- a cell by its two windings
-pub cell-flipped : (flip : Bool) (a b c d : Vec3) (h k : Held) → flip ≡ true → Runs ((a, d, c) ∷ (a, c, b) ∷ []) h k → Runs (turned flip a b c d) h k
-cell-flipped flip a b c d h k e R = runs-as (ap (λ (t : Bool). turned t a b c d) (sym e)) R
-
-pub cell-straight : (flip : Bool) (a b c d : Vec3) (h k : Held) → flip ≡ false → Runs ((a, b, c) ∷ (a, c, d) ∷ []) h k → Runs (turned flip a b c d) h k
-cell-straight flip a b c d h k e R = runs-as (ap (λ (t : Bool). turned t a b c d) (sym e)) R
 
 module _ (flip : Bool) (f : ℕ → ℕ → Vec3) where
   pub row-none : (i : ℕ) (h : Held) → Ready h → Runs (row 0 flip f i) h h

@@ -7,50 +7,13 @@ ghost use Rattle.surfaces.specs.Within.{Within};
 ghost use Rattle.surfaces.specs.Turns.{Tabled};
 ghost use Rattle.soups.specs.Surface.{surfaceAt};
 ghost use Rattle.soups.specs.Grid as Grid;
-ghost use Rattle.grids.specs.Cell.{turned};
 use crate::guesses;
 use math::Vec3;
-use quads::Quad;
 use soups::Surface;
 use weld::Welder;
 
-// One cell: the quad a, b, c, d, or where flip says so a, d, c, b. The last four arguments are guesses at the numbers of a, b, c and d.
-fn weld_cell(
-    vertices: &mut [f64],
-    triangles: &mut [u32],
-    work: &mut [u32],
-    w: Welder,
-    flip: bool,
-    a: Vec3,
-    b: Vec3,
-    c: Vec3,
-    d: Vec3,
-    na: usize,
-    nb: usize,
-    nc: usize,
-    nd: usize,
-) -> Quad
-    requires { ⌜ Ready (held w (now vertices) (now triangles) (now work)) ⌝ }
-    ensures { λ r. ⌜ Runs (turned flip a b c d)
-        (held w (now (vertices .entry)) (now (triangles .entry)) (now (work .entry)))
-        (held (r .st) (now (vertices .exit)) (now (triangles .exit)) (now (work .exit))) ⌝ }
-{
-    if flip {
-        let q = quads::weld_quad(vertices, triangles, work, w, a, d, c, b, na, nd, nc, nb);
-        let st = q.st;
-        return Quad {
-            st,
-            a: q.a,
-            b: q.d,
-            c: q.c,
-            d: q.b,
-        };
-    }
-    quads::weld_quad(vertices, triangles, work, w, a, b, c, d, na, nb, nc, nd)
-}
-
-// The cells of row i. The last two points of a cell are the first two of the next. `numbers` has guesses at the numbers of the
-// row's points, and afterwards of the next row's.
+// The cells of row i. The last two points of a cell are the first two of the next, where their numbers are known. `numbers` has
+// guesses at the numbers of the row's points, and afterwards of the next row's.
 fn weld_row(
     vertices: &mut [f64],
     triangles: &mut [u32],
@@ -93,12 +56,13 @@ fn weld_row(
             numbers[0],
             guesses::onward(last, nb, st.count),
         );
-        let q = weld_cell(
+        let q = cells::weld_in_row(
             vertices,
             triangles,
             work,
             st,
             flip,
+            0 < j,
             a,
             b,
             c,
@@ -121,7 +85,7 @@ fn weld_row(
     st
 }
 
-// Soup::grid with one column over a surface. The last two points of a cell are the first two of the next.
+// Soup::grid with one column over a surface. The last two points of a cell are the first two of the next, where their numbers are known.
 fn weld_column(
     vertices: &mut [f64],
     triangles: &mut [u32],
@@ -151,12 +115,13 @@ fn weld_column(
         let c = surfaces::surface_point(s, corners, rows, cols, i + 1, 1);
         let nb = guesses::same_or(b, a, na, st.count);
         let nc = guesses::same_or(c, d, nd, st.count);
-        let q = weld_cell(
+        let q = cells::weld_in_column(
             vertices,
             triangles,
             work,
             st,
             flip,
+            0 < i,
             a,
             b,
             c,

@@ -1,6 +1,8 @@
 // Guesses at the numbers of points. The welder tests each, so a wrong one costs a look-up and nothing else.
 ghost use mathlib.Core.Path.{_≡_};
-ghost use mathlib.Core.Bool.{cond};
+ghost use mathlib.Core.Bool.{_&&_, cond};
+ghost use Prim.Native.Nat.{_+_, _-_};
+ghost use lib.Dec.{ltb};
 ghost use Rattle.trimesh.specs.Mesh.{samePoint};
 use math::Vec3;
 
@@ -42,7 +44,9 @@ pub fn last_corner(
 
 // The guess at a point's number where those of the two points before it are `last` and n: as far on from n. Points of an earlier
 // grid were numbered there at even distances.
-pub fn onward(last: usize, n: usize, none: usize) -> usize {
+pub fn onward(last: usize, n: usize, none: usize) -> usize
+    ensures { λ r. ⌜ r ≡ cond (ltb last n && ltb n 4294967296) (n + (n - last)) none ⌝ }
+{
     if last < n {
         if n < 4294967296 {
             return n + (n - last);

@@ -1,15 +1,20 @@
--- What welding the two triangles of a quad does to the mesh that the slices hold. Assumes nothing.
-use mathlib.Core.Path.{_≡_, refl, sym, _∙_, subst}
+-- What welding the two triangles of a quad does to the mesh that the slices hold, and which vertices its points are. Assumes nothing.
+use mathlib.Core.Path.{_≡_, refl, sym, ap, _∙_, subst}
 use mathlib.Core.Bool.{Bool, true, false, _&&_}
 use mathlib.Core.List.{List, [], _∷_}
-use Prim.Native.Nat.{ℕ, _<_, _^_}
+use mathlib.Core.Logic.{_⊎_, inl, inr}
+use Prim.Native.Nat.{ℕ, _≤_, _<_, _^_}
 use native.Mathlib.Omega.{arith}
+use lib.Dec.{T}
 use lib.ListN.{length}
-use lib.Ieee.{Float}
+use lib.Ieee.{Float, fits, binary64}
 use Rattle.math.specs.declared.Vec3.{Vec3}
-use Rattle.trimesh.specs.Mesh.{Mesh, finiteV, plusZeroV, weldTriangle, weldSoup, everyFinite}
-use Rattle.stored.specs.Points.{Clean}
-use Rattle.chain.specs.Hash.{FirstAt}
+use Rattle.balance.specs.Soup.{Tri}
+use Rattle.balance.specs.Grid.{quad}
+use Rattle.trimesh.specs.Mesh.{Mesh, samePoint, finiteV, plusZeroV, weldTriangle, weldSoup, everyFinite}
+use Rattle.stored.specs.Points.{Clean, vertexAt}
+use Rattle.stored.proofs.Clean.{clean-self, equal-clean}
+use Rattle.chain.specs.Hash.{Stored, FirstAt}
 use Rattle.chain.proofs.Chains.{not-both, first-at}
 use Rattle.weld.specs.declared.Welder.{Welder}
 use Rattle.welding.specs.declared.Welded.{Welded}
@@ -17,9 +22,10 @@ use Rattle.weld.specs.Rep.{Held, held, Linked, Ready, Rep, Runs}
 use Rattle.weld.specs.States.{unfinite}
 use Rattle.welding.specs.Steps.{weldPoints, PointRuns, TriangleRuns, PointsRun}
 use Rattle.weld.proofs.Places.{places-limit}
-use Rattle.welding.proofs.Point.{point-at, point-known}
+use Rattle.welding.proofs.Point.{point-known}
 use Rattle.welding.proofs.Triangle.{and-false, linked-moved, points-run}
-use Rattle.quads.specs.Quads.{Seen, QuadRuns, LastRuns}
+use Rattle.quads.specs.declared.Quad.{Quad}
+use Rattle.quads.specs.Quads.{Given, Known, Numbered, QuadRuns, CornersRun, quadWith, LastRuns}
 
 -- ---- the triangles a, b, c and a, c, d
 pub quad-points : (a b c d : Vec3) (h m k : Held) → PointsRun a b c h m → PointsRun a c d m k → QuadRuns a b c d h k
@@ -40,7 +46,16 @@ quad-finite true true false w = refl
 quad-finite true true true false = refl
 quad-finite true true true true = refl
 
--- a point is not finite: nothing is written
+-- a point is not finite
+pub one-false : (x y z w : Bool) → (y ≡ false) ⊎ ((z ≡ false) ⊎ (w ≡ false)) → (x && y && z && w) ≡ false
+one-false false y z w e = refl
+one-false true y z w (inl e) = rw e
+one-false true false z w (inr e) = refl
+one-false true true z w (inr (inl e)) = rw e
+one-false true true false w (inr (inr e)) = refl
+one-false true true true w (inr (inr e)) = e
+
+-- where a point is not finite, nothing is written
 pub quad-stops : (w : Welder) (vs : List Float) (ts ws : List ℕ) (a b c d : Vec3) → Ready (held w vs ts ws) → (finiteV a && finiteV b && finiteV c && finiteV d) ≡ false
     → Runs ((a, b, c) ∷ (a, c, d) ∷ []) (held w vs ts ws) (held (unfinite w) vs ts ws)
 unfolding everyFinite
@@ -54,52 +69,74 @@ quad-stops w vs ts ws a b c d R n =
       rep = λ e. absurd (not-both false e refl);
     }
 
+-- ---- points whose vertices are known
+
+-- a point that equals a vertex of this part
+pub known-at : (w : Welder) (vs : List Float) (p : Vec3) (m : ℕ) → Stored vs (w .places) (w .base) (w .count) → T (fits binary64 (p .x)) → T (fits binary64 (p .y)) → T (fits binary64 (p .z))
+    → w .base ≤ m → m < w .count → samePoint (vertexAt vs m) p ≡ true → Known w vs p m
+known-at w vs p m S fx fy fz l i e =
+    let c : Clean (vertexAt vs m) = S .clean m i in
+    let q = equal-clean (vertexAt vs m) p c fx fy fz e in
+    let F : FirstAt vs (w .base) (w .count) (vertexAt vs m) m =
+    first-at vs (w .places) (w .base) (w .count) S (vertexAt vs m) c m l i (clean-self (vertexAt vs m) c) in
+    record {
+      finite = λ f r. q .0;
+      first = λ f r. subst (λ (v : Vec3). FirstAt vs (w .base) (w .count) v m) (sym (q .1)) F;
+    }
+
+-- once a point was not finite, nothing is asked
+pub known-stopped : (w : Welder) (vs : List Float) (p : Vec3) (m : ℕ) → w .finite ≡ false → Known w vs p m
+known-stopped w vs p m f = record { finite = λ e. absurd (not-both (w .finite) e f); first = λ e. absurd (not-both (w .finite) e f) }
+
+-- the number of a vertex is a 32-bit number
+pub known-small : (w : Welder) (vs : List Float) (ws : List ℕ) (p : Vec3) (m : ℕ) → Linked w vs ws → w .finite ≡ true → w .room ≡ true → Known w vs p m → m < 2 ^ 32
+known-small w vs ws p m L f r K = omega (arith, K .first f r .high, L .places, places-limit vs, L .stored .within)
+
+pub numbered-stopped : (soup : List (Tri Vec3)) (a b c d : Vec3) (h : Held) (q : Quad) (vs : List Float) (ts ws : List ℕ) → q .st .finite ≡ false → Runs soup h (held (q .st) vs ts ws)
+    → Numbered soup a b c d h q vs ts ws
+numbered-stopped soup a b c d h q vs ts ws f R =
+    record {
+      runs = R;
+      known-a = known-stopped (q .st) vs a (q .a) f;
+      known-b = known-stopped (q .st) vs b (q .b) f;
+      known-c = known-stopped (q .st) vs c (q .c) f;
+      known-d = known-stopped (q .st) vs d (q .d) f;
+    }
+
+-- ---- all points are finite
 and-true : (v x : Bool) → x ≡ true → v ≡ (v && x)
 and-true true x e = sym e
 and-true false x e = refl
 
--- all points are finite
-pub quad-runs : (a b c d a′ b′ c′ d′ : Vec3) (h k : Held) → (finiteV a && finiteV b && finiteV c && finiteV d) ≡ true
-    → a′ ≡ plusZeroV a → b′ ≡ plusZeroV b → c′ ≡ plusZeroV c → d′ ≡ plusZeroV d → QuadRuns a′ b′ c′ d′ h k → Runs ((a, b, c) ∷ (a, c, d) ∷ []) h k
+pub quad-runs : (a b c d a′ b′ c′ d′ : Vec3) (h k : Held) → finiteV a ≡ true → finiteV b ≡ true → finiteV c ≡ true → finiteV d ≡ true
+    → a′ ≡ plusZeroV a → b′ ≡ plusZeroV b → c′ ≡ plusZeroV c → d′ ≡ plusZeroV d → QuadRuns a′ b′ c′ d′ h k → Runs (quad a b c d) h k
 unfolding everyFinite weldSoup weldTriangle weldPoints
-quad-runs a b c d a′ b′ c′ d′ h k f ea eb ec ed P =
+quad-runs a b c d a′ b′ c′ d′ h k fa fb fc fd ea eb ec ed P =
     record {
       ready = P .ready;
       vlong = P .vlong;
       tlong = P .tlong;
       wlong = P .wlong;
-      finite = P .finite ∙ and-true (h .st .finite) (everyFinite ((a, b, c) ∷ (a, c, d) ∷ [])) (quad-finite (finiteV a) (finiteV b) (finiteV c) (finiteV d) ∙ f);
+      finite = P .finite ∙ and-true (h .st .finite) (everyFinite (quad a b c d)) (quad-finite (finiteV a) (finiteV b) (finiteV c) (finiteV d) ∙ (λ i. fa i && fb i && fc i && fd i));
       rep = λ e D S Q. subst (λ (M : Mesh). Rep D M k) (λ i. weldPoints (weldPoints S (ea i) (eb i) (ec i)) (ea i) (ec i) (ed i)) (P .rep D S Q);
     }
 
--- ---- a quad of which only c is looked up
+known-given : (w : Welder) (vs : List Float) (p p′ : Vec3) (m : ℕ) → finiteV p ≡ true → p′ ≡ plusZeroV p → Given w vs p′ m → Known w vs p m
+known-given w vs p p′ m f e G = record { finite = λ _ _. f; first = λ _ r. subst (λ (v : Vec3). FirstAt vs (w .base) (w .count) v m) e (G r) }
 
--- a number that was seen is a 32-bit number
-pub seen-small : (w : Welder) (vs : List Float) (ws : List ℕ) (p : Vec3) (m : ℕ) → Linked w vs ws → Seen vs w p m → m < 2 ^ 32
-seen-small w vs ws p m L s = omega (arith, s .high, L .places, places-limit vs, L .stored .within)
+pub quad-numbered : (a b c d a′ b′ c′ d′ : Vec3) (h : Held) (q : Quad) (vs : List Float) (ts ws : List ℕ) → finiteV a ≡ true → finiteV b ≡ true → finiteV c ≡ true → finiteV d ≡ true
+    → a′ ≡ plusZeroV a → b′ ≡ plusZeroV b → c′ ≡ plusZeroV c → d′ ≡ plusZeroV d → CornersRun a′ b′ c′ d′ h q vs ts ws → Numbered (quad a b c d) a b c d h q vs ts ws
+quad-numbered a b c d a′ b′ c′ d′ h q vs ts ws fa fb fc fd ea eb ec ed P =
+    record {
+      runs = quad-runs a b c d a′ b′ c′ d′ h (held (q .st) vs ts ws) fa fb fc fd ea eb ec ed (P .runs);
+      known-a = known-given (q .st) vs a a′ (q .a) fa ea (P .given-a);
+      known-b = known-given (q .st) vs b b′ (q .b) fb eb (P .given-b);
+      known-c = known-given (q .st) vs c c′ (q .c) fc ec (P .given-c);
+      known-d = known-given (q .st) vs d d′ (q .d) fd ed (P .given-d);
+    }
 
-module _ (w : Welder) (vs : List Float) (ts ws : List ℕ) (R : Ready (held w vs ts ws)) (e : w .room ≡ true) where
-  seen-first : (p : Vec3) (m : ℕ) → Clean p → Seen vs w p m → FirstAt vs (w .base) (w .count) p m
-  seen-first p m cp s = first-at vs (w .places) (w .base) (w .count) (R .linked .stored) p cp m (s .low) (s .high) (s .equal)
-
-  pub last-runs : (c : Vec3) (na nb nd : ℕ) (t : Welded) (vs′ : List Float) (ws′ : List ℕ) (u : Welder) (ts₁ : List ℕ) (v : Welder) (ts₂ : List ℕ)
-      → PointRuns c w vs ws t vs′ ws′ → TriangleRuns na nb (t .number) (t .st) ts u ts₁ → TriangleRuns na (t .number) nd u ts₁ v ts₂
-      → length vs′ ≡ length vs → length ts₁ ≡ length ts → length ts₂ ≡ length ts₁ → length ws′ ≡ length ws → na < 2 ^ 32 → nb < 2 ^ 32 → nd < 2 ^ 32
-      → LastRuns c na nb nd (held w vs ts ws) (held v vs′ ts₂ ws′)
-  last-runs c na nb nd t vs′ ws′ u ts₁ v ts₂ P T₁ T₂ lv lt lt₂ lw sa sb sd a b d ca cb cd A B D =
-      let L₁ = linked-moved (t .st) u (T₁ .base) (T₁ .count) (T₁ .places) (T₁ .ordered) (T₁ .row) (P .linked) in
-      let known : (p : Vec3) (m : ℕ) → FirstAt vs (w .base) (w .count) p m → u .room ≡ true → FirstAt vs′ (u .base) (u .count) p m =
-      λ p m F q. rw (T₁ .base, T₁ .count) (P .stays (T₁ .sticky q) p m F) in
-      quad-points a b c d (held w vs ts ws) (held u vs′ ts₁ ws′) (held v vs′ ts₂ ws′)
-      (points-run a b c w vs ts ws (record { number = na; st = w }) vs ws (record { number = nb; st = w }) vs ws t vs′ ws′ u ts₁
-      (point-at w vs ws (R .linked) a na e (seen-first a na ca A)) (point-at w vs ws (R .linked) b nb e (seen-first b nb cb B)) P T₁ lv lt lw)
-      (points-run a c d u vs′ ts₁ ws′ (record { number = na; st = u }) vs′ ws′ (record { number = t .number; st = u }) vs′ ws′ (record { number = nd; st = u }) vs′ ws′ v ts₂
-      (point-known u vs′ ws′ a na L₁ sa (known a na (seen-first a na ca A)))
-      (point-known u vs′ ws′ c (t .number) L₁ (P .small) (λ q. rw (T₁ .base, T₁ .count) (P .here (T₁ .sticky q))))
-      (point-known u vs′ ws′ d nd L₁ sd (known d nd (seen-first d nd cd D))) T₂ refl lt₂ refl)
-
--- ---- a quad of which each point gets its number
-first-moved : {vs : List Float} {p : Vec3} {m : ℕ} (w r : Welder) → r .base ≡ w .base → r .count ≡ w .count → FirstAt vs (w .base) (w .count) p m → FirstAt vs (r .base) (r .count) p m
+-- ---- each point of a quad gets its number
+pub first-moved : {vs : List Float} {p : Vec3} {m : ℕ} (w r : Welder) → r .base ≡ w .base → r .count ≡ w .count → FirstAt vs (w .base) (w .count) p m → FirstAt vs (r .base) (r .count) p m
 first-moved w r b c F = rw (b, c) F
 
 pub both-runs : (a b c d : Vec3) (w : Welder) (vs : List Float) (ts ws : List ℕ) (pa : Welded) (vs₁ : List Float) (ws₁ : List ℕ) (pb : Welded) (vs₂ : List Float) (ws₂ : List ℕ)
@@ -107,13 +144,47 @@ pub both-runs : (a b c d : Vec3) (w : Welder) (vs : List Float) (ts ws : List �
     → PointRuns a w vs ws pa vs₁ ws₁ → PointRuns b (pa .st) vs₁ ws₁ pb vs₂ ws₂ → PointRuns c (pb .st) vs₂ ws₂ pc vs₃ ws₃
     → TriangleRuns (pa .number) (pb .number) (pc .number) (pc .st) ts u ts₁ → PointRuns d u vs₃ ws₃ pd vs₄ ws₄ → TriangleRuns (pa .number) (pc .number) (pd .number) (pd .st) ts₁ v ts₂
     → length vs₃ ≡ length vs → length vs₄ ≡ length vs₃ → length ts₁ ≡ length ts → length ts₂ ≡ length ts₁ → length ws₃ ≡ length ws → length ws₄ ≡ length ws₃
-    → QuadRuns a b c d (held w vs ts ws) (held v vs₄ ts₂ ws₄)
+    → CornersRun a b c d (held w vs ts ws) (record { st = v; a = pa .number; b = pb .number; c = pc .number; d = pd .number }) vs₄ ts₂ ws₄
 both-runs a b c d w vs ts ws pa vs₁ ws₁ pb vs₂ ws₂ pc vs₃ ws₃ u ts₁ pd vs₄ ws₄ v ts₂ A B C T₁ E T₂ lv lv₂ lt lt₂ lw lw₂ =
     let L₁ = linked-moved (pc .st) u (T₁ .base) (T₁ .count) (T₁ .places) (T₁ .ordered) (T₁ .row) (C .linked) in
-    quad-points a b c d (held w vs ts ws) (held u vs₃ ts₁ ws₃) (held v vs₄ ts₂ ws₄)
-    (points-run a b c w vs ts ws pa vs₁ ws₁ pb vs₂ ws₂ pc vs₃ ws₃ u ts₁ A B C T₁ lv lt lw)
-    (points-run a c d u vs₃ ts₁ ws₃ (record { number = pa .number; st = u }) vs₃ ws₃ (record { number = pc .number; st = u }) vs₃ ws₃ pd vs₄ ws₄ v ts₂
-    (point-known u vs₃ ws₃ a (pa .number) L₁ (A .small)
-    (λ q. first-moved (pc .st) u (T₁ .base) (T₁ .count)
-    (C .stays (T₁ .sticky q) a (pa .number) (B .stays (C .sticky (T₁ .sticky q)) a (pa .number) (A .here (B .sticky (C .sticky (T₁ .sticky q))))))))
-    (point-known u vs₃ ws₃ c (pc .number) L₁ (C .small) (λ q. first-moved (pc .st) u (T₁ .base) (T₁ .count) (C .here (T₁ .sticky q)))) E T₂ lv₂ lt₂ lw₂)
+    let ga : Given u vs₃ a (pa .number) =
+    λ q. first-moved (pc .st) u (T₁ .base) (T₁ .count)
+    (C .stays (T₁ .sticky q) a (pa .number) (B .stays (C .sticky (T₁ .sticky q)) a (pa .number) (A .here (B .sticky (C .sticky (T₁ .sticky q)))))) in
+    let gb : Given u vs₃ b (pb .number) =
+    λ q. first-moved (pc .st) u (T₁ .base) (T₁ .count) (C .stays (T₁ .sticky q) b (pb .number) (B .here (C .sticky (T₁ .sticky q)))) in
+    let gc : Given u vs₃ c (pc .number) = λ q. first-moved (pc .st) u (T₁ .base) (T₁ .count) (C .here (T₁ .sticky q)) in
+    let on : (p : Vec3) (m : ℕ) → Given u vs₃ p m → Given v vs₄ p m =
+    λ p m G q. first-moved (pd .st) v (T₂ .base) (T₂ .count) (E .stays (T₂ .sticky q) p m (G (E .sticky (T₂ .sticky q)))) in
+    record {
+      runs = quad-points a b c d (held w vs ts ws) (held u vs₃ ts₁ ws₃) (held v vs₄ ts₂ ws₄)
+          (points-run a b c w vs ts ws pa vs₁ ws₁ pb vs₂ ws₂ pc vs₃ ws₃ u ts₁ A B C T₁ lv lt lw)
+          (points-run a c d u vs₃ ts₁ ws₃ (record { number = pa .number; st = u }) vs₃ ws₃ (record { number = pc .number; st = u }) vs₃ ws₃ pd vs₄ ws₄ v ts₂
+          (point-known u vs₃ ws₃ a (pa .number) L₁ (A .small) ga) (point-known u vs₃ ws₃ c (pc .number) L₁ (C .small) gc) E T₂ lv₂ lt₂ lw₂);
+      given-a = on a (pa .number) ga;
+      given-b = on b (pb .number) gb;
+      given-c = on c (pc .number) gc;
+      given-d = λ q. first-moved (pd .st) v (T₂ .base) (T₂ .count) (E .here (T₂ .sticky q));
+    }
+
+-- ---- a quad of which only c is looked up
+module _ (w : Welder) (vs : List Float) (ts ws : List ℕ) (R : Ready (held w vs ts ws)) (f : w .finite ≡ true) (e : w .room ≡ true) where
+  pub last-runs : (c c′ : Vec3) (na nb nd : ℕ) (t : Welded) (vs′ : List Float) (ws′ : List ℕ) (u : Welder) (ts₁ : List ℕ) (v : Welder) (ts₂ : List ℕ)
+      → finiteV c ≡ true → c′ ≡ plusZeroV c
+      → PointRuns c′ w vs ws t vs′ ws′ → TriangleRuns na nb (t .number) (t .st) ts u ts₁ → TriangleRuns na (t .number) nd u ts₁ v ts₂
+      → length vs′ ≡ length vs → length ts₁ ≡ length ts → length ts₂ ≡ length ts₁ → length ws′ ≡ length ws → na < 2 ^ 32 → nb < 2 ^ 32 → nd < 2 ^ 32
+      → LastRuns c na nb nd (held w vs ts ws) (record { number = t .number; st = v }) vs′ ts₂ ws′
+  last-runs c c′ na nb nd t vs′ ws′ u ts₁ v ts₂ fc ec P T₁ T₂ lv lt lt₂ lw sa sb sd a b d A B D =
+      let L₁ = linked-moved (t .st) u (T₁ .base) (T₁ .count) (T₁ .places) (T₁ .ordered) (T₁ .row) (P .linked) in
+      quad-numbered a b c d (plusZeroV a) (plusZeroV b) c′ (plusZeroV d) (held w vs ts ws) (quadWith (record { number = t .number; st = v }) na nb nd) vs′ ts₂ ws′
+      (A .finite f e) (B .finite f e) fc (D .finite f e) refl refl ec refl
+      (both-runs (plusZeroV a) (plusZeroV b) c′ (plusZeroV d) w vs ts ws (record { number = na; st = w }) vs ws (record { number = nb; st = w }) vs ws t vs′ ws′ u ts₁
+      (record { number = nd; st = u }) vs′ ws′ v ts₂
+      (point-known w vs ws (plusZeroV a) na (R .linked) sa (A .first f)) (point-known w vs ws (plusZeroV b) nb (R .linked) sb (B .first f)) P T₁
+      (point-known u vs′ ws′ (plusZeroV d) nd L₁ sd (λ q. first-moved (t .st) u (T₁ .base) (T₁ .count) (P .stays (T₁ .sticky q) (plusZeroV d) nd (D .first f e))))
+      T₂ lv refl lt lt₂ lw refl)
+
+pub last-stops : (w : Welder) (vs : List Float) (ts ws : List ℕ) → Ready (held w vs ts ws) → (c : Vec3) (na nb nd : ℕ) → finiteV c ≡ false
+    → LastRuns c na nb nd (held w vs ts ws) (record { number = 0; st = unfinite w }) vs ts ws
+last-stops w vs ts ws R c na nb nd n a b d A B D =
+    numbered-stopped (quad a b c d) a b c d (held w vs ts ws) (quadWith (record { number = 0; st = unfinite w }) na nb nd) vs ts ws refl
+    (quad-stops w vs ts ws a b c d R (one-false (finiteV a) (finiteV b) (finiteV c) (finiteV d) (inr (inl n))))

@@ -1,47 +1,26 @@
-// The two triangles of a quad whose points came out of `+ 0.0`.
+// The points of a quad: which are vertices already, and numbers for the others.
 ghost use mathlib.Core.Path.{_≡_};
 ghost use mathlib.Core.Bool.{true};
-ghost use Prim.Native.Nat.{_*_, _≤_, _<_, _^_};
-ghost use lib.ListN.{length};
+ghost use Prim.Native.Nat.{_<_, _^_};
 ghost use Rattle.stored.specs.Points.{Clean};
+ghost use Rattle.chain.specs.Hash.{Stored};
 ghost use Rattle.weld.specs.Rep.{held, Ready};
-ghost use Rattle.quads.specs.Quads.{Seen, QuadRuns, LastRuns};
+ghost use Rattle.quads.specs.Quads.{Known, CornersRun, LastRuns};
 use crate::Quad;
 use math::Vec3;
 use weld::Welder;
+use welding::Welded;
 
-// The two triangles of a quad after `+ 0.0`. In most quads of a grid all points but c were seen before.
-pub fn weld_corners(
-    vertices: &mut [f64],
-    triangles: &mut [u32],
-    work: &mut [u32],
-    w: Welder,
-    a: Vec3,
-    b: Vec3,
-    c: Vec3,
-    d: Vec3,
-    na: usize,
-    nb: usize,
-    nc: usize,
-    nd: usize,
-) -> Quad
-    requires { ⌜ Ready (held w (now vertices) (now triangles) (now work)) ⌝ }
-    requires { ⌜ Clean a × Clean b × Clean c × Clean d ⌝ }
-    ensures { λ r. ⌜ QuadRuns a b c d
-        (held w (now (vertices .entry)) (now (triangles .entry)) (now (work .entry)))
-        (held (r .st) (now (vertices .exit)) (now (triangles .exit)) (now (work .exit))) ⌝ }
+// Whether p equals vertex m, and this is one of this part. If so p is finite, as all vertices are.
+pub fn is_vertex(vertices: &[f64], w: Welder, m: usize, p: Vec3) -> bool
+    requires { ⌜ Stored (now vertices) (w .places) (w .base) (w .count) ⌝ }
+    ensures { λ r. ⌜ (r ≡ true → Known w (now (vertices .entry)) p m) ⌝ }
 {
-    let room = w.room;
-    if room {
-        if are_at(vertices, w, a, b, d, na, nb, nd) {
-            return weld_last(vertices, triangles, work, w, c, na, nb, nd, nc);
-        }
-    }
-    weld_both(vertices, triangles, work, w, a, b, c, d, na, nb, nc, nd)
+    stored::is_at(vertices, w.base, w.count, m, p)
 }
 
 // Whether the guesses at the numbers of a, b and d are right.
-fn are_at(
+pub fn are_at(
     vertices: &[f64],
     w: Welder,
     a: Vec3,
@@ -51,19 +30,20 @@ fn are_at(
     nb: usize,
     nd: usize,
 ) -> bool
-    requires { ⌜ 3 * w .count ≤ length (now vertices) ⌝ }
-    ensures { λ r. ⌜ (r ≡ true → Seen (now (vertices .entry)) w a na × Seen (now (vertices .entry)) w b nb × Seen (now (vertices .entry)) w d nd) ⌝ }
+    requires { ⌜ Stored (now vertices) (w .places) (w .base) (w .count) ⌝ }
+    ensures { λ r. ⌜ (r ≡ true → Known w (now (vertices .entry)) a na × Known w (now (vertices .entry)) b nb × Known w (now (vertices .entry)) d nd) ⌝ }
 {
-    if stored::is_at(vertices, w.base, w.count, na, a) {
-        if stored::is_at(vertices, w.base, w.count, nb, b) {
-            return stored::is_at(vertices, w.base, w.count, nd, d);
+    if is_vertex(vertices, w, na, a) {
+        if is_vertex(vertices, w, nb, b) {
+            return is_vertex(vertices, w, nd, d);
         }
     }
     false
 }
 
-// The two triangles of a quad of which a, b and d have the numbers na, nb and nd: one look-up at most.
-fn weld_last(
+// The two triangles of a quad of which a, b and d have the numbers na, nb and nd: only c is tested for being finite, and looked up.
+// The answer is the number of c.
+pub fn weld_last(
     vertices: &mut [f64],
     triangles: &mut [u32],
     work: &mut [u32],
@@ -73,29 +53,29 @@ fn weld_last(
     nb: usize,
     nd: usize,
     guess: usize,
-) -> Quad
+) -> Welded
     requires { ⌜ Ready (held w (now vertices) (now triangles) (now work)) ⌝ }
-    requires { ⌜ Clean c × (w .room ≡ true) × (na < 2 ^ 32) × (nb < 2 ^ 32) × (nd < 2 ^ 32) ⌝ }
+    requires { ⌜ (w .finite ≡ true) × (w .room ≡ true) × (na < 2 ^ 32) × (nb < 2 ^ 32) × (nd < 2 ^ 32) ⌝ }
     ensures { λ r. ⌜ LastRuns c na nb nd
         (held w (now (vertices .entry)) (now (triangles .entry)) (now (work .entry)))
-        (held (r .st) (now (vertices .exit)) (now (triangles .exit)) (now (work .exit))) ⌝ }
+        r (now (vertices .exit)) (now (triangles .exit)) (now (work .exit)) ⌝ }
 {
-    let t = welding::weld_point(vertices, work, w, c, guess);
+    if !weld::is_finite(c) {
+        return Welded {
+            number: 0,
+            st: weld::stopped(w),
+        };
+    }
+    let t = welding::weld_point(vertices, work, w, weld::plus_zero(c), guess);
     let nc = t.number;
     let st = t.st;
     let u = welding::add_triangle(triangles, st, na, nb, nc);
     let v = welding::add_triangle(triangles, u, na, nc, nd);
-    Quad {
-        st: v,
-        a: na,
-        b: nb,
-        c: nc,
-        d: nd,
-    }
+    Welded { number: nc, st: v }
 }
 
-// The same where a guess is wrong: each of the four points gets its number.
-fn weld_both(
+// The two triangles of a quad after `+ 0.0`: each of the four points gets its number.
+pub fn weld_both(
     vertices: &mut [f64],
     triangles: &mut [u32],
     work: &mut [u32],
@@ -111,9 +91,9 @@ fn weld_both(
 ) -> Quad
     requires { ⌜ Ready (held w (now vertices) (now triangles) (now work)) ⌝ }
     requires { ⌜ Clean a × Clean b × Clean c × Clean d ⌝ }
-    ensures { λ r. ⌜ QuadRuns a b c d
+    ensures { λ r. ⌜ CornersRun a b c d
         (held w (now (vertices .entry)) (now (triangles .entry)) (now (work .entry)))
-        (held (r .st) (now (vertices .exit)) (now (triangles .exit)) (now (work .exit))) ⌝ }
+        r (now (vertices .exit)) (now (triangles .exit)) (now (work .exit)) ⌝ }
 {
     let pa = welding::weld_point(vertices, work, w, a, na);
     let sa = pa.st;

@@ -1,17 +1,19 @@
 // Soup::quad of src/tessellate.rs: a quad is two triangles, welded together, so that each of its points is looked up once at most.
 ghost use mathlib.Core.Path.{_≡_};
 ghost use mathlib.Core.Bool.{_&&_};
-ghost use mathlib.Core.List.{[], _∷_};
+ghost use Rattle.balance.specs.Grid.{quad};
 ghost use Rattle.trimesh.specs.Mesh.{finiteV};
-ghost use Rattle.weld.specs.Rep.{held, Ready, Runs};
+ghost use Rattle.weld.specs.Rep.{held, Ready};
+ghost use Rattle.quads.specs.Quads.{Numbered};
 
 mod corners;
 
+pub use corners::is_vertex;
+pub use corners::weld_last;
 use math::Vec3;
 use weld::Welder;
 
-// The state after a quad, and what its points' numbers were. Callers hand the numbers back as guesses: a guess that is
-// wrong costs a look-up, and nothing else.
+// The state after a quad, and what its points' numbers are. Callers hand numbers on as guesses, or as numbers that are known.
 pub struct Quad {
     pub st: Welder,
     pub a: usize,
@@ -20,7 +22,8 @@ pub struct Quad {
     pub d: usize,
 }
 
-// Soup::quad: the triangles a, b, c and a, c, d. The last four arguments are guesses at the numbers of a, b, c and d.
+// Soup::quad: the triangles a, b, c and a, c, d. The last four arguments are guesses at the numbers of a, b, c and d. In most quads
+// of a grid all points but c were seen before: a point that equals a stored vertex is finite.
 pub fn weld_quad(
     vertices: &mut [f64],
     triangles: &mut [u32],
@@ -36,18 +39,32 @@ pub fn weld_quad(
     nd: usize,
 ) -> Quad
     requires { ⌜ Ready (held w (now vertices) (now triangles) (now work)) ⌝ }
-    ensures { λ r. ⌜ Runs ((a, b, c) ∷ (a, c, d) ∷ [])
+    ensures { λ r. ⌜ Numbered (quad a b c d) a b c d
         (held w (now (vertices .entry)) (now (triangles .entry)) (now (work .entry)))
-        (held (r .st) (now (vertices .exit)) (now (triangles .exit)) (now (work .exit))) ⌝ }
+        r (now (vertices .exit)) (now (triangles .exit)) (now (work .exit)) ⌝ }
 {
     let finite = w.finite;
     if !finite {
         return unnumbered(w);
     }
+    let room = w.room;
+    if room {
+        if corners::are_at(vertices, w, a, b, d, na, nb, nd) {
+            let t = corners::weld_last(vertices, triangles, work, w, c, na, nb, nd, nc);
+            let st = t.st;
+            return Quad {
+                st,
+                a: na,
+                b: nb,
+                c: t.number,
+                d: nd,
+            };
+        }
+    }
     if !are_finite(a, b, c, d) {
         return unnumbered(weld::stopped(w));
     }
-    corners::weld_corners(
+    corners::weld_both(
         vertices,
         triangles,
         work,
@@ -63,8 +80,8 @@ pub fn weld_quad(
     )
 }
 
-// A quad that was not welded: any guess will do.
-fn unnumbered(w: Welder) -> Quad
+// A quad that was not welded: its numbers mean nothing.
+pub fn unnumbered(w: Welder) -> Quad
     ensures { λ r. ⌜ r .st ≡ w ⌝ }
 {
     Quad {

@@ -1,8 +1,8 @@
--- Points after `+ 0.0`: they are clean, and two clean points that are equal as floats are equal as data. Assumes nothing.
+-- Points after `+ 0.0`: they are clean, and two clean points that are equal as floats are equal as data; and a point that equals a clean one. Assumes nothing.
 use mathlib.Core.Path.{_≡_, sym, ap, _∙_, subst}
 use mathlib.Core.Bool.{true, _&&_}
 use lib.Dec.{T}
-use lib.Ieee.{Float, fits, eq, add, ofBits, binary64}
+use lib.Ieee.{Float, nan, inf, fin, fits, eq, add, ofBits, binary64}
 use lib.Ieee.Fits.{add-fits, and-l, and-r}
 use lib.Ieee.Scale.{finite}
 use Rattle.ieee.specs.Same.{canon, plus-zero, canon-finite, canon-canon, same→canon, eq→same, true-T, T-true, finite-not-nan, eq-refl}
@@ -51,3 +51,38 @@ unfolding samePoint
 clean-self p c =
     let e : (x : Float) → CleanFloat x → eq x x ≡ true = λ x h. T-true (eq x x) (eq-refl x (finite-not-nan x (h .finitely))) in
     λ i. e (p .x) (c .cx) i && e (p .y) (c .cy) i && e (p .z) (c .cz) i
+
+-- ---- a point that equals a clean one: it is finite, and `+ 0.0` makes it that point
+uncanon : (x : Float) → T (finite (canon x)) → T (finite x)
+uncanon nan t = t
+uncanon (inf s) t = t
+uncanon (fin s m e) t = tt
+
+module _ (v x : Float) (c : CleanFloat v) (f : T (fits binary64 x)) (e : T (eq v x)) where
+  canon-equal : canon x ≡ v
+  canon-equal = sym (same→canon v x (eq→same binary64 v x (c .fit) f e)) ∙ c .canonical
+
+  finite-equal : T (finite x)
+  finite-equal = uncanon x (subst (λ (y : Float). T (finite y)) (sym canon-equal) (c .finitely))
+
+  plus-equal : add binary64 x (ofBits binary64 0) ≡ v
+  plus-equal = ap (add binary64 x) zero-bits ∙ plus-zero binary64 x f ∙ canon-equal
+
+pub equal-clean : (v p : Vec3) → Clean v → T (fits binary64 (p .x)) → T (fits binary64 (p .y)) → T (fits binary64 (p .z)) → samePoint v p ≡ true → (finiteV p ≡ true) × (plusZeroV p ≡ v)
+unfolding samePoint plusZeroV
+equal-clean v p cv fx fy fz h =
+    let t : T (samePoint v p) = true-T (samePoint v p) h in
+    let xy : T (eq (v .x) (p .x) && eq (v .y) (p .y)) = and-l (eq (v .x) (p .x) && eq (v .y) (p .y)) (eq (v .z) (p .z)) t in
+    let ex : T (eq (v .x) (p .x)) = and-l (eq (v .x) (p .x)) (eq (v .y) (p .y)) xy in
+    let ey : T (eq (v .y) (p .y)) = and-r (eq (v .x) (p .x)) (eq (v .y) (p .y)) xy in
+    let ez : T (eq (v .z) (p .z)) = and-r (eq (v .x) (p .x) && eq (v .y) (p .y)) (eq (v .z) (p .z)) t in
+    let tx : finite (p .x) ≡ true = T-true (finite (p .x)) (finite-equal (v .x) (p .x) (cv .cx) fx ex) in
+    let ty : finite (p .y) ≡ true = T-true (finite (p .y)) (finite-equal (v .y) (p .y) (cv .cy) fy ey) in
+    let tz : finite (p .z) ≡ true = T-true (finite (p .z)) (finite-equal (v .z) (p .z) (cv .cz) fz ez) in (
+      (λ i. tx i && ty i && tz i),
+      (λ i. record {
+        x = plus-equal (v .x) (p .x) (cv .cx) fx ex i;
+        y = plus-equal (v .y) (p .y) (cv .cy) fy ey i;
+        z = plus-equal (v .z) (p .z) (cv .cz) fz ez i;
+      }),
+    )

@@ -1,22 +1,15 @@
 -- `quads::are_finite` meets its contract. Assumes nothing.
 use borrow.Author.Needs.{needs}
-use mathlib.Core.Path.{_≡_, refl, sym, _∙_}
+use mathlib.Core.Path.{_≡_, sym, _∙_}
 use mathlib.Core.Bool.{Bool, true, false, _&&_}
+use mathlib.Core.Logic.{inl, inr}
 use Rattle.trimesh.specs.Mesh.{finiteV}
+use Rattle.quads.proofs.Quads.{one-false}
 use Rattle.quads.proofs.are_finite.Statement.{statement}
 use Rattle.quads.proofs.are_finite.Tie as tie
 
 fourth : (a b c d : Bool) → a ≡ true → b ≡ true → c ≡ true → d ≡ (a && b && c && d)
 fourth a b c d p q r = rw (p, q, r)
-
-not-third : (a b c d : Bool) → c ≡ false → false ≡ (a && b && c && d)
-not-third true true c d p = rw p
-not-third true false c d p = refl
-not-third false b c d p = refl
-
-not-second : (a b c d : Bool) → b ≡ false → false ≡ (a && b && c && d)
-not-second true b c d p = rw p
-not-second false b c d p = refl
 
 not-first : (a b c d : Bool) → a ≡ false → false ≡ (a && b && c && d)
 not-first a b c d p = rw p
@@ -43,12 +36,12 @@ returns c =
 returns-2 : tie.Need-returns-2
 returns-2 c =
     let s = c .before .before .before .before .before .before in
-    not-third (finiteV (s .args .a)) (finiteV (s .args .b)) (finiteV (s .args .c)) (finiteV (s .args .d)) (sym (c .before .is-finite3 .ensures) ∙ c .if3 .left)
+    sym (one-false (finiteV (s .args .a)) (finiteV (s .args .b)) (finiteV (s .args .c)) (finiteV (s .args .d)) (inr (inl (sym (c .before .is-finite3 .ensures) ∙ c .if3 .left))))
 
 returns-3 : tie.Need-returns-3
 returns-3 c =
     let s = c .before .before .before .before in
-    not-second (finiteV (s .args .a)) (finiteV (s .args .b)) (finiteV (s .args .c)) (finiteV (s .args .d)) (sym (c .before .is-finite2 .ensures) ∙ c .if2 .left)
+    sym (one-false (finiteV (s .args .a)) (finiteV (s .args .b)) (finiteV (s .args .c)) (finiteV (s .args .d)) (inl (sym (c .before .is-finite2 .ensures) ∙ c .if2 .left)))
 
 returns-4 : tie.Need-returns-4
 returns-4 c = not-first _ _ _ _ (sym (c .before .is-finite .ensures) ∙ c .if1 .left)

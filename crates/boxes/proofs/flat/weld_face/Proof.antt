@@ -23,16 +23,16 @@ weld-quad-requires : tie.Need-weld-quad-requires
 weld-quad-requires c κs = c .before .before .before .before .before .before .before .before .before .before .pre .0
 
 same-length : tie.Need-same-length
-same-length c = c .before .before .before .before .before .before .before .weld-quad .ensures .vlong
+same-length c = c .before .before .before .before .before .before .before .weld-quad .ensures .runs .vlong
 
 same-length-2 : tie.Need-same-length-2
-same-length-2 c = c .before .before .before .before .before .before .before .weld-quad .ensures .tlong
+same-length-2 c = c .before .before .before .before .before .before .before .weld-quad .ensures .runs .tlong
 
 same-length-3 : tie.Need-same-length-3
-same-length-3 c = c .before .before .before .before .before .before .before .weld-quad .ensures .wlong
+same-length-3 c = c .before .before .before .before .before .before .before .weld-quad .ensures .runs .wlong
 
 returns-2 : tie.Need-returns-2
-returns-2 c = face-there _ _ _ _ _ _ _ _ _ (c .before .before .before .before .before .before .before .before .before .before .before .before .before .if1 .left) (c .before .before .before .before .before .before .before .before .before .before .before .before .before .before .has-face .ensures) (runs-as (c .before .before .before .before .before .before .before .before .before .before .before .before .face .ensures) (c .before .before .before .before .before .before .before .weld-quad .ensures))
+returns-2 c = face-there _ _ _ _ _ _ _ _ _ (c .before .before .before .before .before .before .before .before .before .before .before .before .before .if1 .left) (c .before .before .before .before .before .before .before .before .before .before .before .before .before .before .has-face .ensures) (runs-as (c .before .before .before .before .before .before .before .before .before .before .before .before .face .ensures) (c .before .before .before .before .before .before .before .weld-quad .ensures .runs))
 
 pub weld-face-spec : {M : Type 1} → statement M
 weld-face-spec =

@@ -1,11 +1,13 @@
 -- `grids::grid::weld_column` meets its contract. Assumes nothing.
 use borrow.Author.Needs.{needs}
+use borrow.Author.Tests.{ltb-true}
 use mathlib.Core.Path.{_≡_, ap}
-use Prim.Native.Nat.{ℕ, _+_, _-_, _≤_, zero-le}
+use Prim.Native.Nat.{ℕ, _+_, _-_, _≤_, _<_, zero-le}
 use native.Mathlib.Omega.{arith}
 use denote.Ref.{now}
 use Rattle.weld.specs.Rep.{held, Runs}
 use Rattle.weld.specs.Runs.{runs-as}
+use Rattle.quads.specs.Quads.{Known}
 use Rattle.soups.specs.Grid.{grid}
 use Rattle.soups.specs.Surface.{surfaceAt}
 use Rattle.surfaces.proofs.Surfaces.{within-less, tabled-less}
@@ -19,6 +21,7 @@ Inv-loop vertices₀ triangles₀ work₀ s corners rows cols nu flip st₀ a₀
     × Runs (grid i 1 flip (surfaceAt corners s)) (held st₀ vertices₀ triangles₀ work₀) (held st vertices triangles work)
     × (a ≡ surfaceAt corners s i 0)
     × (d ≡ surfaceAt corners s i 1)
+    × (0 < i → Known st vertices a na × Known st vertices d nd)
 
 abbrev μ-loop : tie.MeasureT-loop
 μ-loop vertices₀ triangles₀ work₀ s corners rows cols nu flip st₀ a₀ d₀ na₀ nd₀ i₀ vertices triangles work st a d na nd i = nu - i
@@ -40,7 +43,7 @@ surface-point-requires-2 c κs =
 loop-holds : tie.Need-loop-holds Inv-loop μ-loop
 loop-holds c =
     let x = c .before .before .before .before .before .before .before .before in
-    (zero-le, grid-none (x .args .flip) (surfaceAt (now (x .args .corners)) (x .args .s)) 1 _ (x .pre .0), c .before .surface-point .ensures, c .surface-point2 .ensures)
+    (zero-le, grid-none (x .args .flip) (surfaceAt (now (x .args .corners)) (x .args .s)) 1 _ (x .pre .0), c .before .surface-point .ensures, c .surface-point2 .ensures, (λ l. absurd (omega (arith, l))))
 
 add-surface-point : tie.Need-add-surface-point Inv-loop μ-loop
 add-surface-point c = omega (arith, c .loop-test .taken, c .before .before .before .before .before .before .before .before .before .before .pre .1 .0)
@@ -68,8 +71,8 @@ same-or-requires c κs = search needs
 same-or-requires-2 : tie.Need-same-or-requires-2 Inv-loop μ-loop
 same-or-requires-2 c κs = search needs
 
-weld-cell-requires : tie.Need-weld-cell-requires Inv-loop μ-loop
-weld-cell-requires c κs = c .before .before .before .before .before .before .before .before .loop .inv .1 .ready
+weld-in-column-requires : tie.Need-weld-in-column-requires Inv-loop μ-loop
+weld-in-column-requires c κs = let l = c .before .before .before .before .before .before .before .before .loop in (l .inv .1 .ready, (λ e. l .inv .4 (ltb-true 0 (l .i) e)))
 
 add-i : tie.Need-add-i Inv-loop μ-loop
 add-i c = omega (arith, c .before .before .before .before .before .before .before .before .before .before .before .before .before .before .before .loop-test .taken, c .before .before .before .before .before .before .before .before .before .before .before .before .before .before .before .before .before .before .before .before .before .before .before .before .before .pre .1 .0)
@@ -82,11 +85,13 @@ loop-again c =
     let x = c .before .before .before .before .before .before .before .before .before .before .before .before .before .before .before .before .before .before .before .before .before .before .before .before .before in
     let l = c .before .before .before .before .before .before .before .before .before .before .before .before .before .before .before .before .loop in
     let p = c .before .before .before .before .before .before .before .before .before .before .before .before .before .before .surface-point3 .ensures in
-    let q = c .before .before .before .before .before .before .before .before .before .before .before .before .before .surface-point4 .ensures in (
+    let q = c .before .before .before .before .before .before .before .before .before .before .before .before .before .surface-point4 .ensures in
+    let n = c .before .before .before .before .before .before .before .weld-in-column .ensures in (
       omega (arith, c .before .before .before .before .before .before .before .before .before .before .before .before .before .before .before .loop-test .taken),
-      column-more (x .args .flip) (surfaceAt (now (x .args .corners)) (x .args .s)) (l .i) _ _ _ _ _ _ _ (l .inv .2) p q (l .inv .3) (l .inv .1) (c .before .before .before .before .before .before .before .weld-cell .ensures),
+      column-more (x .args .flip) (surfaceAt (now (x .args .corners)) (x .args .s)) (l .i) _ _ _ _ _ _ _ (l .inv .2) p q (l .inv .3) (l .inv .1) (n .runs),
       p,
       q,
+      (λ _. (n .known-b, n .known-c)),
     )
 
 same-length : tie.Need-same-length Inv-loop μ-loop
@@ -119,7 +124,7 @@ weld-column-spec =
     surface-point-requires-4
     same-or-requires
     same-or-requires-2
-    weld-cell-requires
+    weld-in-column-requires
     add-i
     loop-less
     loop-again

@@ -1,7 +1,8 @@
 -- `grids::grid::weld_row` meets its contract. Assumes nothing.
 use borrow.Author.Needs.{needs}
+use borrow.Author.Tests.{ltb-true}
 use mathlib.Core.Path.{_≡_, refl, ap}
-use Prim.Native.Nat.{ℕ, _+_, _-_, _*_, _≤_, zero-le}
+use Prim.Native.Nat.{ℕ, _+_, _-_, _*_, _≤_, _<_, zero-le}
 use native.Mathlib.Omega.{arith}
 use denote.Ref.{now}
 use mir.Val.{Fits}
@@ -9,6 +10,7 @@ use mir.Syntax.{w64}
 use lib.ListN.{length, length-set}
 use Rattle.weld.specs.Rep.{held, Runs}
 use Rattle.weld.specs.Runs.{runs-as}
+use Rattle.quads.specs.Quads.{Known}
 use Rattle.soups.specs.Grid.{row}
 use Rattle.soups.specs.Surface.{surfaceAt}
 use Rattle.surfaces.proofs.Surfaces.{within-less, tabled-less}
@@ -23,6 +25,7 @@ Inv-loop vertices₀ triangles₀ work₀ s corners rows cols numbers₀ i nv fl
     × (a ≡ surfaceAt corners s i j)
     × (b ≡ surfaceAt corners s (i + 1) j)
     × (length numbers ≡ length numbers₀)
+    × (0 < j → Known st vertices a na × Known st vertices b nb)
 
 abbrev μ-loop : tie.MeasureT-loop
 μ-loop vertices₀ triangles₀ work₀ s corners rows cols numbers₀ i nv flip st₀ a₀ first b₀ na₀ nb₀ last₀ j₀ vertices triangles work numbers st a b na nb last j = nv - j
@@ -56,7 +59,7 @@ same-or-requires c κs = search needs
 loop-holds : tie.Need-loop-holds Inv-loop μ-loop
 loop-holds c =
     let x = c .before .before .before .before .before .before .before .before .before .before .before in
-    (zero-le, row-none (x .args .flip) (surfaceAt (now (x .args .corners)) (x .args .s)) (x .args .i) _ (x .pre .0), c .before .before .before .surface-point .ensures, c .before .before .surface-point2 .ensures, refl)
+    (zero-le, row-none (x .args .flip) (surfaceAt (now (x .args .corners)) (x .args .s)) (x .args .i) _ (x .pre .0), c .before .before .before .surface-point .ensures, c .before .before .surface-point2 .ensures, refl, (λ l. absurd (omega (arith, l))))
 
 add-surface-point-2 : tie.Need-add-surface-point-2 Inv-loop μ-loop
 add-surface-point-2 c = omega (arith, c .loop-test .taken, c .before .before .before .before .before .before .before .before .before .before .before .before .before .pre .1 .1)
@@ -102,8 +105,8 @@ onward-requires c κs = search needs
 last-corner-requires : tie.Need-last-corner-requires Inv-loop μ-loop
 last-corner-requires c κs = search needs
 
-weld-cell-requires : tie.Need-weld-cell-requires Inv-loop μ-loop
-weld-cell-requires c κs = c .before .before .before .before .before .before .before .before .before .before .before .loop .inv .1 .ready
+weld-in-row-requires : tie.Need-weld-in-row-requires Inv-loop μ-loop
+weld-in-row-requires c κs = let l = c .before .before .before .before .before .before .before .before .before .before .before .loop in (l .inv .1 .ready, (λ e. l .inv .5 (ltb-true 0 (l .j) e)))
 
 mul-numbers : tie.Need-mul-numbers Inv-loop μ-loop
 mul-numbers c = fits-index _ (omega (arith, c .before .before .before .before .before .before .before .before .before .before .before .before .before .before .before .before .before .loop-test .taken, c .before .before .before .before .before .before .before .before .before .before .before .before .before .before .before .before .before .before .before .before .before .before .before .before .before .before .before .before .before .before .pre .1 .1))
@@ -122,12 +125,14 @@ loop-again c =
     let x = c .before .before .before .before .before .before .before .before .before .before .before .before .before .before .before .before .before .before .before .before .before .before .before .before .before .before .before .before .before .before .before in
     let l = c .before .before .before .before .before .before .before .before .before .before .before .before .before .before .before .before .before .before .before .loop in
     let d = c .before .before .before .before .before .before .before .before .before .before .before .before .before .before .before .before .before .surface-point3 .ensures in
-    let e = c .before .before .before .before .before .before .before .before .before .before .before .before .before .before .before .before .surface-point4 .ensures in (
+    let e = c .before .before .before .before .before .before .before .before .before .before .before .before .before .before .before .before .surface-point4 .ensures in
+    let n = c .before .before .before .before .before .before .before .weld-in-row .ensures in (
       omega (arith, c .before .before .before .before .before .before .before .before .before .before .before .before .before .before .before .before .before .before .loop-test .taken),
-      row-more (x .args .flip) (surfaceAt (now (x .args .corners)) (x .args .s)) (x .args .i) (l .j) _ _ _ _ _ _ _ (l .inv .2) (l .inv .3) e d (l .inv .1) (c .before .before .before .before .before .before .before .weld-cell .ensures),
+      row-more (x .args .flip) (surfaceAt (now (x .args .corners)) (x .args .s)) (x .args .i) (l .j) _ _ _ _ _ _ _ (l .inv .2) (l .inv .3) e d (l .inv .1) (n .runs),
       d,
       e,
       simp length-set (l .inv .4),
+      (λ _. (n .known-d, n .known-c)),
     )
 
 mul-numbers-2 : tie.Need-mul-numbers-2 Inv-loop μ-loop
@@ -178,7 +183,7 @@ weld-row-spec =
     slice-read-last-corner
     onward-requires
     last-corner-requires
-    weld-cell-requires
+    weld-in-row-requires
     mul-numbers
     slice-write-numbers
     add-j

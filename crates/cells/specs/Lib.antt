@@ -1,0 +1,2 @@
+-- What the contracts of `cells` cite.
+pub mod Cell

@@ -1,0 +1,114 @@
+// One cell of Soup::grid of src/tessellate.rs: a quad, turned where flip says so. Two cells that follow each other share two points, so
+// the numbers of these are known in the second.
+ghost use mathlib.Core.Path.{_≡_};
+ghost use mathlib.Core.Bool.{true, cond};
+ghost use Rattle.weld.specs.Rep.{held, Ready};
+ghost use Rattle.quads.specs.Quads.{Known, Numbered};
+ghost use Rattle.cells.specs.Cell.{turned};
+
+mod column;
+
+pub use column::weld_in_column;
+use math::Vec3;
+use quads::Quad;
+use weld::Welder;
+
+// One cell: the quad a, b, c, d, or where flip says so a, d, c, b. The last four arguments are guesses at the numbers of a, b, c and d.
+fn weld_cell(
+    vertices: &mut [f64],
+    triangles: &mut [u32],
+    work: &mut [u32],
+    w: Welder,
+    flip: bool,
+    a: Vec3,
+    b: Vec3,
+    c: Vec3,
+    d: Vec3,
+    na: usize,
+    nb: usize,
+    nc: usize,
+    nd: usize,
+) -> Quad
+    requires { ⌜ Ready (held w (now vertices) (now triangles) (now work)) ⌝ }
+    ensures { λ r. ⌜ Numbered (turned flip a b c d) a b c d
+        (held w (now (vertices .entry)) (now (triangles .entry)) (now (work .entry)))
+        r (now (vertices .exit)) (now (triangles .exit)) (now (work .exit)) ⌝ }
+{
+    if flip {
+        let q = quads::weld_quad(vertices, triangles, work, w, a, d, c, b, na, nd, nc, nb);
+        let st = q.st;
+        return Quad {
+            st,
+            a: q.a,
+            b: q.d,
+            c: q.c,
+            d: q.b,
+        };
+    }
+    quads::weld_quad(vertices, triangles, work, w, a, b, c, d, na, nb, nc, nd)
+}
+
+// The same where `known` may say that na and nb are the numbers of a and b, as after the cell before in a row: where the guess at d is
+// right, too, only c is tested for being finite, and looked up.
+pub fn weld_in_row(
+    vertices: &mut [f64],
+    triangles: &mut [u32],
+    work: &mut [u32],
+    w: Welder,
+    flip: bool,
+    known: bool,
+    a: Vec3,
+    b: Vec3,
+    c: Vec3,
+    d: Vec3,
+    na: usize,
+    nb: usize,
+    nc: usize,
+    nd: usize,
+) -> Quad
+    requires { ⌜ Ready (held w (now vertices) (now triangles) (now work)) ⌝ }
+    requires { ⌜ (known ≡ true → Known w (now vertices) a na × Known w (now vertices) b nb) ⌝ }
+    ensures { λ r. ⌜ Numbered (turned flip a b c d) a b c d
+        (held w (now (vertices .entry)) (now (triangles .entry)) (now (work .entry)))
+        r (now (vertices .exit)) (now (triangles .exit)) (now (work .exit)) ⌝ }
+{
+    let finite = w.finite;
+    let room = w.room;
+    if known & finite & room {
+        if quads::is_vertex(vertices, w, nd, d) {
+            let second = pick(flip, nd, nb);
+            let fourth = pick(flip, nb, nd);
+            let t = quads::weld_last(vertices, triangles, work, w, c, na, second, fourth, nc);
+            let st = t.st;
+            return Quad {
+                st,
+                a: na,
+                b: nb,
+                c: t.number,
+                d: nd,
+            };
+        }
+    }
+    weld_cell(
+        vertices,
+        triangles,
+        work,
+        w,
+        flip,
+        a,
+        b,
+        c,
+        d,
+        na,
+        nb,
+        nc,
+        nd,
+    )
+}
+
+// The number x where flip says so, or else y.
+fn pick(flip: bool, x: usize, y: usize) -> usize
+    ensures { λ r. ⌜ r ≡ cond flip x y ⌝ }
+{
+    if flip { x } else { y }
+}

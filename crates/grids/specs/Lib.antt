@@ -1,2 +1,0 @@
--- What the contracts of `grids` cite.
-pub mod Cell
