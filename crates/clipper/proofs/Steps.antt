@@ -30,7 +30,7 @@ pub state-eq : {l l' t t' : List ℕ} {r r' : ℕ} → l ≡ l' → t ≡ t' →
     → _≡_ {A = State} (record { left = l; triangles = t; removed = r }) (record { left = l'; triangles = t'; removed = r' })
 state-eq el et er = rw (el, et, er)
 
--- ---- a pass of the definition
+-- ---- a pass, the passes and the last triangle, by the definition
 
 module _ (v : List Float) (e : Float) (s : State) where
   pub pass-ear : (k : ℕ) → firstEar v e (s .left) ≡ At k → clipped s k ≡ pass v e s
@@ -124,11 +124,11 @@ module _ (v : List Float) (e : Float) (at : List ℕ) (n : ℕ) (c : Cut) (b : L
         place = tt;
       }
 
--- ---- a step of the loop: from w, c and the slice b to w', c' and a
-
 -- what is known of an answer is known of the variant that it is
 pub passing-at : {v : List Float} {e : Float} {at : List ℕ} {n : ℕ} {c : Cut} {b a : List ℕ} {r r' : Passed} → r ≡ r' → Passing v e at n c b r a → Passing v e at n c b r' a
 passing-at h p = rw h at p
+
+-- ---- a step of the loop: from w, c and the slice b to w', c' and a
 
 pub record Goes (v : List Float) (e : Float) (w : Remaining) (c : Cut) (b : List ℕ) (w' : Remaining) (c' : Cut) (a : List ℕ) : Type 0 where
   pub inside : Inside v (w' .at) (w' .n)
