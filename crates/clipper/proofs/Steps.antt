@@ -1,7 +1,7 @@
 -- The laws by which the code's state follows the definition's: a pass, the passes, the last triangle. Assumes nothing.
 use Prim.Native.Nat.{ℕ, zero, suc, _+_, _-_, _*_, _/_, _<_, _≤_}
 use mathlib.Core.Path.{_≡_, refl, sym, ap, _∙_}
-use mathlib.Core.Bool.{Bool, true, false, _&&_}
+use mathlib.Core.Bool.{true, false}
 use mathlib.Core.List.{List, [], _∷_, _++_}
 use native.Mathlib.Nat.{not-suc-le-zero, mul-le-mul-left}
 use native.Mathlib.Omega.{arith}
@@ -17,10 +17,11 @@ use Rattle.ears.specs.declared.Found.{Found}
 use Rattle.ears.specs.declared.Found.the-variants.{At, Nothing}
 use Rattle.ears.proofs.Laws.{left-length, left-at, seek-below}
 use Rattle.clipper.specs.Triangulate.{State, without, fan, counting, clipped, dropped, fanned, byFound, pass, passes, pickState, finished, start, triangulated, triangulatePolygon}
-use Rattle.clipper.specs.Slices.{held, stateOf, Fit, Goes, Gives, Wrote}
+use Rattle.clipper.specs.Slices.{held, stateOf, Room, Passing, Gives, Wrote}
 use Rattle.clipper.specs.declared.Remaining.{Remaining}
-use Rattle.clipper.specs.declared.Work.{Work}
 use Rattle.clipper.specs.declared.Cut.{Cut}
+use Rattle.clipper.specs.declared.Passed.{Passed}
+use Rattle.clipper.specs.declared.Passed.the-variants.{Without, Fanned}
 use Rattle.clipper.proofs.Writing.{without-inside, drop-more}
 
 -- ---- states
@@ -29,65 +30,7 @@ pub state-eq : {l l' t t' : List ℕ} {r r' : ℕ} → l ≡ l' → t ≡ t' →
     → _≡_ {A = State} (record { left = l; triangles = t; removed = r }) (record { left = l'; triangles = t'; removed = r' })
 state-eq el et er = rw (el, et, er)
 
--- an ear is clipped
-pub clip-goes : (v : List Float) (w : Work) (k : ℕ) (b a : List ℕ) (x : Ear) (next : Remaining) → k < w .left .n → 3 < w .left .n → Fit v b w
-    → x ≡ earAt v (held (w .left)) k → length a ≡ length b → Wrote (w .triangles) (w .triangles + 1) (x .before ∷ x .at ∷ x .after ∷ []) b a
-    → (next .n + 1 ≡ w .left .n) × (length (next .at) ≡ 512) × (held next ≡ without k (held (w .left)))
-    → Goes v (clipped (stateOf w b) k) w (record { left = next; triangles = w .triangles + 1; removed = w .removed + 1 }) b a
-unfolding clipped earAt
-clip-goes v w k b a x next h h3 f hx hl p q =
-    record {
-      fit = record { inside = without-inside v (w .left) next k (f .inside) h (q .0) (q .1) (q .2); room = omega (arith, f .room); few = omega (arith, f .few); short = omega (arith, f .short) };
-      state = state-eq (q .2) (p .front ∙ ap (λ (y : Ear). take (3 * w .triangles) b ++ (y .before ∷ y .at ∷ y .after ∷ [])) hx) refl;
-      rest = p .rest;
-      grows = omega arith;
-      falls = omega arith;
-    }
-
--- a flat corner goes
-pub drop-goes : (v : List Float) (w : Work) (k : ℕ) (b : List ℕ) (next : Remaining) → k < w .left .n → Fit v b w
-    → (next .n + 1 ≡ w .left .n) × (length (next .at) ≡ 512) × (held next ≡ without k (held (w .left)))
-    → Goes v (dropped (stateOf w b) k) w (record { left = next; triangles = w .triangles; removed = w .removed + 1 }) b b
-unfolding dropped
-drop-goes v w k b next h f q =
-    record {
-      fit = record { inside = without-inside v (w .left) next k (f .inside) h (q .0) (q .1) (q .2); room = omega (arith, f .room); few = omega (arith, f .few); short = f .short };
-      state = state-eq (q .2) refl refl;
-      rest = refl;
-      grows = omega arith;
-      falls = omega arith;
-    }
-
--- the rest is fanned
-pub fan-goes : (v : List Float) (w : Work) (b a : List ℕ) (t : ℕ) → 3 < w .left .n → Fit v b w → length a ≡ length b
-    → (t ≡ w .triangles + (w .left .n - 2)) × Wrote (w .triangles) t (fan (held (w .left))) b a
-    → Goes v (fanned (stateOf w b)) w (record { left = record { at = w .left .at; n = 0 }; triangles = t; removed = w .removed }) b a
-unfolding fanned
-fan-goes v w b a t h3 f hl p =
-    record {
-      fit =
-          record {
-            inside = record { long = f .inside .long; small = omega arith; there = λ i h. absurd (not-suc-le-zero h) };
-            room = omega (arith, f .room);
-            few = omega (arith, f .few);
-            short = omega (arith, f .short);
-          };
-      state = state-eq refl (p .1 .front) refl;
-      rest = p .1 .rest;
-      grows = omega arith;
-      falls = omega arith;
-    }
-
--- ---- a turn
-
-module _ (v : List Float) (e : Float) (c : Remaining) (s : Inside v (c .at) (c .n)) (k : ℕ) where
-  pub ear-below : firstEar v e (held c) ≡ At k → k < c .n
-  unfolding firstEar
-  ear-below h = omega (arith, seek-below (isEar v e (held c)) (length (held c)) 0 k h, left-length v (c .at) (c .n) s)
-
-  pub flat-below : firstFlat v e (held c) ≡ At k → k < c .n
-  unfolding firstFlat
-  flat-below h = omega (arith, seek-below (isFlat v e (held c)) (length (held c)) 0 k h, left-length v (c .at) (c .n) s)
+-- ---- a pass, the passes and the last triangle, by the definition
 
 module _ (v : List Float) (e : Float) (s : State) where
   pub pass-ear : (k : ℕ) → firstEar v e (s .left) ≡ At k → clipped s k ≡ pass v e s
@@ -125,9 +68,99 @@ module _ (v : List Float) (e : Float) (s : State) where
   unfolding finished pickState
   finished-few h = rw (ne-eqb (length (s .left)) 3 h)
 
--- the code goes where the definition goes
-pub goes-to : {v : List Float} {s s' : State} {w r : Work} {b a : List ℕ} → s ≡ s' → Goes v s w r b a → Goes v s' w r b a
-goes-to {v} {s} {s'} {w} {r} {b} {a} e g = record { fit = g .fit; state = g .state ∙ e; rest = g .rest; grows = g .grows; falls = g .falls }
+-- ---- a pass of the code, by what the two searches answer
+
+module _ (v : List Float) (e : Float) (at : List ℕ) (n : ℕ) (s : Inside v at n) (k : ℕ) {f : Found} where
+  pub ear-below : f ≡ firstEar v e (take n at) → f ≡ At k → k < n
+  unfolding firstEar
+  ear-below h hk = omega (arith, seek-below (isEar v e (take n at)) (length (take n at)) 0 k (sym h ∙ hk), left-length v at n s)
+
+  pub flat-below : f ≡ firstFlat v e (take n at) → f ≡ At k → k < n
+  unfolding firstFlat
+  flat-below h hk = omega (arith, seek-below (isFlat v e (take n at)) (length (take n at)) 0 k (sym h ∙ hk), left-length v at n s)
+
+module _ (v : List Float) (e : Float) (at : List ℕ) (n : ℕ) (c : Cut) (b : List ℕ) (h3 : 3 < n) (s : Inside v at n) (m : Room n c b) {f : Found} (ear : f ≡ firstEar v e (take n at)) where
+  -- an ear is clipped
+  pub clip-passing : (k : ℕ) (x : Ear) (a : List ℕ) → f ≡ At k → x ≡ earAt v (take n at) k → length a ≡ length b
+      → Wrote (c .triangles) (c .triangles + 1) (x .before ∷ x .at ∷ x .after ∷ []) b a
+      → Passing v e at n c b (Without k (record { triangles = c .triangles + 1; removed = c .removed + 1 })) a
+  unfolding clipped earAt
+  clip-passing k x a at-k hx hl p =
+      let h : k < n = ear-below v e at n s k ear at-k in
+      record {
+        state =
+            state-eq refl (p .front ∙ ap (λ (y : Ear). take (3 * c .triangles) b ++ (y .before ∷ y .at ∷ y .after ∷ [])) hx) refl
+            ∙ pass-ear v e (stateOf (take n at) c b) k (sym ear ∙ at-k);
+        rest = p .rest;
+        grows = omega arith;
+        room = record { room = omega (arith, m .room); few = omega (arith, m .few); short = omega (arith, m .short) };
+        place = h;
+      }
+
+  -- a flat corner goes
+  pub drop-passing : (k : ℕ) {g : Found} → f ≡ Nothing → g ≡ firstFlat v e (take n at) → g ≡ At k
+      → Passing v e at n c b (Without k (record { triangles = c .triangles; removed = c .removed + 1 })) b
+  unfolding dropped
+  drop-passing k none flat at-k =
+      let h : k < n = flat-below v e at n s k flat at-k in
+      record {
+        state = pass-flat v e (stateOf (take n at) c b) k (sym ear ∙ none) (sym flat ∙ at-k);
+        rest = refl;
+        grows = omega arith;
+        room = record { room = omega (arith, m .room); few = omega (arith, m .few); short = m .short };
+        place = h;
+      }
+
+  -- the rest is fanned
+  pub fan-passing : (t : ℕ) (a : List ℕ) {g : Found} → f ≡ Nothing → g ≡ firstFlat v e (take n at) → g ≡ Nothing → length a ≡ length b
+      → (t ≡ c .triangles + (n - 2)) × Wrote (c .triangles) t (fan (take n at)) b a → Passing v e at n c b (Fanned (record { triangles = t; removed = c .removed })) a
+  unfolding fanned
+  fan-passing t a none flat none' hl p =
+      record {
+        state = state-eq refl (p .1 .front) refl ∙ pass-fan v e (stateOf (take n at) c b) (sym ear ∙ none) (sym flat ∙ none');
+        rest = p .1 .rest;
+        grows = omega arith;
+        room = record { room = omega (arith, m .room); few = omega (arith, m .few); short = omega (arith, m .short) };
+        place = tt;
+      }
+
+-- what is known of an answer is known of the variant that it is
+pub passing-at : {v : List Float} {e : Float} {at : List ℕ} {n : ℕ} {c : Cut} {b a : List ℕ} {r r' : Passed} → r ≡ r' → Passing v e at n c b r a → Passing v e at n c b r' a
+passing-at h p = rw h at p
+
+-- ---- a step of the loop: from w, c and the slice b to w', c' and a
+
+pub record Goes (v : List Float) (e : Float) (w : Remaining) (c : Cut) (b : List ℕ) (w' : Remaining) (c' : Cut) (a : List ℕ) : Type 0 where
+  pub inside : Inside v (w' .at) (w' .n)
+  pub room : Room (w' .n) c' a
+  pub state : stateOf (held w') c' a ≡ pass v e (stateOf (held w) c b)
+  pub rest : drop (3 * c' .triangles) a ≡ drop (3 * c' .triangles) b
+  pub grows : c .triangles ≤ c' .triangles
+  pub falls : w' .n < w .n
+
+module _ (v : List Float) (e : Float) (w : Remaining) (c : Cut) (b : List ℕ) (c' : Cut) (a : List ℕ) (s : Inside v (w .at) (w .n)) where
+  pub goes-without : (k : ℕ) (next : Remaining) → Passing v e (w .at) (w .n) c b (Without k c') a
+      → (next .n + 1 ≡ w .n) × (length (next .at) ≡ 512) × (held next ≡ without k (held w)) → Goes v e w c b next c' a
+  goes-without k next p q =
+      record {
+        inside = without-inside v w next k s (p .place) (q .0) (q .1) (q .2);
+        room = record { room = omega (arith, p .room .room); few = omega (arith, p .room .few); short = p .room .short };
+        state = state-eq (q .2) refl refl ∙ p .state;
+        rest = p .rest;
+        grows = p .grows;
+        falls = omega arith;
+      }
+
+  pub goes-fanned : 3 < w .n → Passing v e (w .at) (w .n) c b (Fanned c') a → Goes v e w c b (record { at = w .at; n = 0 }) c' a
+  goes-fanned h3 p =
+      record {
+        inside = record { long = s .long; small = omega arith; there = λ i h. absurd (not-suc-le-zero h) };
+        room = p .room;
+        state = p .state;
+        rest = p .rest;
+        grows = p .grows;
+        falls = omega arith;
+      }
 
 -- ---- the passes, from the state that the loop has reached
 
@@ -151,6 +184,27 @@ reaches-next v e s s' r n n' hn h3 h hs q =
 
 pub reaches-end : (v : List Float) (e : Float) (s r : State) (n : ℕ) → length (s .left) ≤ 3 → Reaches v e s r n → s ≡ r
 reaches-end v e s r n h q = sym (passes-done v e s (q .fuel) h) ∙ q .there
+
+-- ---- the loop
+
+-- what the loop keeps: w remain, c has the counts, out is the slice, which was out₀ at first; the passes go on to r
+pub record Going (v : List Float) (e : Float) (r : State) (out₀ : List ℕ) (w : Remaining) (c : Cut) (out : List ℕ) : Type 0 where
+  pub inside : Inside v (w .at) (w .n)
+  pub room : Room (w .n) c out
+  pub long : length out ≡ length out₀
+  pub rest : drop (3 * c .triangles) out ≡ drop (3 * c .triangles) out₀
+  pub reaches : Reaches v e (stateOf (held w) c out) r (w .n)
+
+pub goes-on : (v : List Float) (e : Float) (r : State) (out₀ : List ℕ) (w : Remaining) (c : Cut) (b : List ℕ) (w' : Remaining) (c' : Cut) (a : List ℕ) → 3 < w .n
+    → length a ≡ length b → Goes v e w c b w' c' a → Going v e r out₀ w c b → Going v e r out₀ w' c' a
+goes-on v e r out₀ w c b w' c' a h3 hl g i =
+    record {
+      inside = g .inside;
+      room = g .room;
+      long = hl ∙ i .long;
+      rest = g .rest ∙ drop-more (3 * c .triangles) (3 * c' .triangles) b out₀ (omega (arith, g .grows)) (i .rest);
+      reaches = reaches-next v e (stateOf (held w) c b) _ r (w .n) _ (sym (left-length v (w .at) (w .n) (i .inside))) h3 (g .falls) (g .state) (i .reaches);
+    }
 
 -- ---- the answer
 
@@ -189,55 +243,48 @@ three-of (a ∷ []) h = absurd (omega (arith, h))
 three-of (a ∷ b ∷ []) h = absurd (omega (arith, h))
 three-of (a ∷ b ∷ c ∷ l) h = refl
 
--- the last three corners are written
-pub triangle-gives : (v : List Float) (e : Float) (w : Work) (b a : List ℕ) (x : Float) → Fit v b w → w .left .n ≡ 3 → length a ≡ length b
-    → x ≡ cross (point v (getD (w .left .at) 0 0)) (point v (getD (w .left .at) 1 0)) (point v (getD (w .left .at) 2 0)) → lt e x ≡ true
-    → Wrote (w .triangles) (w .triangles + 1) (getD (w .left .at) 0 0 ∷ getD (w .left .at) 1 0 ∷ getD (w .left .at) 2 0 ∷ []) b a
-    → Gives (finished v e (stateOf w b)) (record { triangles = w .triangles + 1; removed = w .removed }) b a
-triangle-gives v e w b a x f h3 hl hx h p =
-    let s = stateOf w b in
-    let n : length (held (w .left)) ≡ w .left .n = left-length v (w .left .at) (w .left .n) (f .inside) in
-    let g₀ : getD (held (w .left)) 0 0 ≡ getD (w .left .at) 0 0 = left-at v (w .left .at) (w .left .n) (f .inside) 0 (omega arith) in
-    let g₁ : getD (held (w .left)) 1 0 ≡ getD (w .left .at) 1 0 = left-at v (w .left .at) (w .left .n) (f .inside) 1 (omega arith) in
-    let g₂ : getD (held (w .left)) 2 0 ≡ getD (w .left .at) 2 0 = left-at v (w .left .at) (w .left .n) (f .inside) 2 (omega arith) in
-    let y : x ≡ cross (point v (getD (held (w .left)) 0 0)) (point v (getD (held (w .left)) 1 0)) (point v (getD (held (w .left)) 2 0)) =
-    hx ∙ (λ i. cross (point v (sym g₀ i)) (point v (sym g₁ i)) (point v (sym g₂ i))) in
-    let q : finished v e s ≡ record { left = []; triangles = s .triangles ++ take 3 (s .left); removed = s .removed } =
-    finished-triangle v e s x y (n ∙ h3) h in
-    let m : getD (w .left .at) 0 0 ∷ getD (w .left .at) 1 0 ∷ getD (w .left .at) 2 0 ∷ [] ≡ take 3 (held (w .left)) = rw (← g₀, ← g₁, ← g₂) (three-of (held (w .left)) (n ∙ h3)) in
-    gives (finished v e s) (record { triangles = w .triangles + 1; removed = w .removed }) b a
-    (p .front ∙ ap (λ (l : List ℕ). take (3 * w .triangles) b ++ l) m ∙ ap (λ (r : State). r .triangles) (sym q))
-    (p .rest)
-    (omega (arith, f .room))
-    (ap (λ (r : State). r .removed) (sym q))
+-- ---- the last three corners
 
-pub flat-gives : (v : List Float) (e : Float) (w : Work) (b : List ℕ) (x : Float) → Fit v b w → w .left .n ≡ 3
-    → x ≡ cross (point v (getD (w .left .at) 0 0)) (point v (getD (w .left .at) 1 0)) (point v (getD (w .left .at) 2 0)) → lt e x ≡ false
-    → Gives (finished v e (stateOf w b)) (record { triangles = w .triangles; removed = w .removed }) b b
-flat-gives v e w b x f h3 hx h =
-    let s = stateOf w b in
-    let n : length (held (w .left)) ≡ w .left .n = left-length v (w .left .at) (w .left .n) (f .inside) in
-    let g₀ : getD (held (w .left)) 0 0 ≡ getD (w .left .at) 0 0 = left-at v (w .left .at) (w .left .n) (f .inside) 0 (omega arith) in
-    let g₁ : getD (held (w .left)) 1 0 ≡ getD (w .left .at) 1 0 = left-at v (w .left .at) (w .left .n) (f .inside) 1 (omega arith) in
-    let g₂ : getD (held (w .left)) 2 0 ≡ getD (w .left .at) 2 0 = left-at v (w .left .at) (w .left .n) (f .inside) 2 (omega arith) in
-    let y : x ≡ cross (point v (getD (held (w .left)) 0 0)) (point v (getD (held (w .left)) 1 0)) (point v (getD (held (w .left)) 2 0)) =
-    hx ∙ (λ i. cross (point v (sym g₀ i)) (point v (sym g₁ i)) (point v (sym g₂ i))) in
-    let q : finished v e s ≡ s = finished-flat v e s x y (n ∙ h3) h in
-    gives (finished v e s) (record { triangles = w .triangles; removed = w .removed }) b b
-    (ap (λ (r : State). r .triangles) (sym q)) refl (omega (arith, f .room)) (ap (λ (r : State). r .removed) (sym q))
+module _ (v : List Float) (e : Float) (at : List ℕ) (n : ℕ) (c : Cut) (b : List ℕ) (s : Inside v at n) (m : Room n c b) where
+  -- no triangle is written
+  pub same-gives : finished v e (stateOf (take n at) c b) ≡ stateOf (take n at) c b → Gives (finished v e (stateOf (take n at) c b)) c b b
+  same-gives q =
+      gives (finished v e (stateOf (take n at) c b)) c b b
+      (ap (λ (r : State). r .triangles) (sym q)) refl (omega (arith, m .room)) (ap (λ (r : State). r .removed) (sym q))
 
-pub few-gives : (v : List Float) (e : Float) (w : Work) (b : List ℕ) → Fit v b w → (w .left .n ≡ 3 → ⊥)
-    → Gives (finished v e (stateOf w b)) (record { triangles = w .triangles; removed = w .removed }) b b
-few-gives v e w b f h =
-    let s = stateOf w b in
-    let n : length (held (w .left)) ≡ w .left .n = left-length v (w .left .at) (w .left .n) (f .inside) in
-    let q : finished v e s ≡ s = finished-few v e s (λ m. h (sym n ∙ m)) in
-    gives (finished v e s) (record { triangles = w .triangles; removed = w .removed }) b b
-    (ap (λ (r : State). r .triangles) (sym q)) refl (omega (arith, f .room)) (ap (λ (r : State). r .removed) (sym q))
+  pub few-gives : (n ≡ 3 → ⊥) → Gives (finished v e (stateOf (take n at) c b)) c b b
+  few-gives h = same-gives (finished-few v e (stateOf (take n at) c b) (λ l. h (sym (left-length v at n s) ∙ l)))
+
+  -- three remain, and turn by x
+  module _ (h3 : n ≡ 3) (x : Float) (hx : x ≡ cross (point v (getD at 0 0)) (point v (getD at 1 0)) (point v (getD at 2 0))) where
+    in-list : (i : ℕ) → i < 3 → getD (take n at) i 0 ≡ getD at i 0
+    in-list i h = left-at v at n s i (omega arith)
+
+    three : length (take n at) ≡ 3
+    three = left-length v at n s ∙ h3
+
+    turned : x ≡ cross (point v (getD (take n at) 0 0)) (point v (getD (take n at) 1 0)) (point v (getD (take n at) 2 0))
+    turned = rw (in-list 0 (omega arith), in-list 1 (omega arith), in-list 2 (omega arith)) hx
+
+    pub flat-gives : lt e x ≡ false → Gives (finished v e (stateOf (take n at) c b)) c b b
+    flat-gives h = same-gives (finished-flat v e (stateOf (take n at) c b) x turned three h)
+
+    pub triangle-gives : (a : List ℕ) → length a ≡ length b → lt e x ≡ true
+        → Wrote (c .triangles) (c .triangles + 1) (getD at 0 0 ∷ getD at 1 0 ∷ getD at 2 0 ∷ []) b a
+        → Gives (finished v e (stateOf (take n at) c b)) (record { triangles = c .triangles + 1; removed = c .removed }) b a
+    triangle-gives a hl h p =
+        let q = finished-triangle v e (stateOf (take n at) c b) x turned three h in
+        let l : getD at 0 0 ∷ getD at 1 0 ∷ getD at 2 0 ∷ [] ≡ take 3 (take n at) =
+        rw (← in-list 0 (omega arith), ← in-list 1 (omega arith), ← in-list 2 (omega arith)) (three-of (take n at) three) in
+        gives (finished v e (stateOf (take n at) c b)) (record { triangles = c .triangles + 1; removed = c .removed }) b a
+        (p .front ∙ ap (λ (r : List ℕ). take (3 * c .triangles) b ++ r) l ∙ ap (λ (r : State). r .triangles) (sym q))
+        (p .rest)
+        (omega (arith, m .room))
+        (ap (λ (r : State). r .removed) (sym q))
 
 -- ---- the whole
 
-pub start-is : (c : Remaining) (n : ℕ) (out : List ℕ) → held c ≡ counting 0 n → stateOf (record { left = c; triangles = 0; removed = 0 }) out ≡ start n
+pub start-is : (c : Remaining) (n : ℕ) (out : List ℕ) → held c ≡ counting 0 n → stateOf (held c) (record { triangles = 0; removed = 0 }) out ≡ start n
 unfolding start
 start-is c n out e = state-eq e refl refl
 

@@ -10,15 +10,14 @@ pub struct Remaining {
     pub n: usize,
 }
 
-// The clipper's state: the corners that remain, and the two counts.
-pub struct Work {
-    pub left: Remaining,
-    pub triangles: usize,
-    pub removed: usize,
-}
-
 // How many triangles were given, and how many corners were removed singly.
 pub struct Cut {
     pub triangles: usize,
     pub removed: usize,
+}
+
+// What a pass answers, with the counts then: the corner at a place goes, or the rest was fanned and nothing remains.
+pub enum Passed {
+    Without(usize, Cut),
+    Fanned(Cut),
 }

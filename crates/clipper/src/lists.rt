@@ -22,19 +22,18 @@ pub fn counting(n: usize) -> Remaining
 }
 
 // The corners that remain without the one at place k.
-pub fn without(left: Remaining, k: usize) -> Remaining
+pub fn without(mut left: Remaining, k: usize) -> Remaining
     requires { ⌜ (k < left .n) × (left .n ≤ 512) ⌝ }
     ensures { λ r. ⌜ (r .n + 1 ≡ left .n) × (length (r .at) ≡ 512) × (held r ≡ without· k (held left)) ⌝ }
 {
-    let n = left.n;
-    let mut out = left;
+    let last = left.n - 1;
     let mut i = k;
-    while i + 1 < n {
-        out.at[i] = out.at[i + 1];
+    while i < last {
+        left.at[i] = left.at[i + 1];
         i += 1;
     }
-    out.n = n - 1;
-    out
+    left.n = last;
+    left
 }
 
 // Triangle t becomes a b c.

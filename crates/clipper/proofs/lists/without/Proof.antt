@@ -10,33 +10,34 @@ use Rattle.clipper.proofs.lists.without.Statement.{statement}
 use Rattle.clipper.proofs.lists.without.Tie as tie
 
 abbrev Inv-loop : tie.InvT-loop
-Inv-loop k n out₀ i₀ out i = (k ≤ i) × (i < n) × (length (out .at) ≡ 512) × (take i (out .at) ≡ take i (without k (out₀ .at))) × (drop i (out .at) ≡ drop i (out₀ .at))
+Inv-loop k left₀ last i₀ left i =
+    (k ≤ i) × (i ≤ last) × (length (left .at) ≡ 512) × (take i (left .at) ≡ take i (without k (left₀ .at))) × (drop i (left .at) ≡ drop i (left₀ .at))
 
 abbrev μ-loop : tie.MeasureT-loop
-μ-loop k n out₀ i₀ out i = n - i
+μ-loop k left₀ last i₀ left i = last - i
+
+sub-last : tie.Need-sub-last Inv-loop μ-loop
+sub-last c = omega arith
 
 loop-holds : tie.Need-loop-holds Inv-loop μ-loop
 loop-holds c =
-    let long : length (c .args .left .at) ≡ 512 = search needs in
-    (omega arith, omega arith, long, sym (take-short (c .args .k) (c .args .left .at) (omega arith)), refl)
+    let long : length (c .args .t1 .at) ≡ 512 = search needs in
+    (omega arith, omega arith, long, sym (take-short (c .args .k) (c .args .t1 .at) (omega arith)), refl)
 
-add-loop : tie.Need-add-loop Inv-loop μ-loop
-add-loop c = omega arith
+add-left : tie.Need-add-left Inv-loop μ-loop
+add-left c = omega arith
 
-add-out : tie.Need-add-out Inv-loop μ-loop
-add-out c = omega arith
+mul-left : tie.Need-mul-left Inv-loop μ-loop
+mul-left c = omega arith
 
-mul-out : tie.Need-mul-out Inv-loop μ-loop
-mul-out c = omega arith
+element-copy-out-left : tie.Need-element-copy-out-left Inv-loop μ-loop
+element-copy-out-left c = omega arith
 
-element-copy-out-out : tie.Need-element-copy-out-out Inv-loop μ-loop
-element-copy-out-out c = omega arith
+mul-left-2 : tie.Need-mul-left-2 Inv-loop μ-loop
+mul-left-2 c = omega arith
 
-mul-out-2 : tie.Need-mul-out-2 Inv-loop μ-loop
-mul-out-2 c = omega arith
-
-element-write-out : tie.Need-element-write-out Inv-loop μ-loop
-element-write-out c = omega arith
+element-write-left : tie.Need-element-write-left Inv-loop μ-loop
+element-write-left c = omega arith
 
 add-i : tie.Need-add-i Inv-loop μ-loop
 add-i c = omega arith
@@ -48,32 +49,29 @@ loop-again : tie.Need-loop-again Inv-loop μ-loop
 loop-again c =
     let a = c .before .before .before .args in
     let l = c .before .before .loop in
-    let long : length (a .left .at) ≡ 512 = search needs in
-    let more : l .i + 1 < length (a .left .at) = omega arith in
-    let n : length (l .out .at) ≡ length (a .left .at) = omega arith in (
+    let long : length (a .t1 .at) ≡ 512 = search needs in
+    let more : l .i + 1 < length (a .t1 .at) = omega arith in
+    let n : length (l .left .at) ≡ length (a .t1 .at) = omega arith in (
       omega arith,
       omega arith,
       simp length-set (l .inv .2),
-      shift-done (a .k) (l .i) (a .left .at) (l .out .at) (l .inv .0) more n (l .inv .3) (l .inv .4),
-      shift-rest (a .k) (l .i) (a .left .at) (l .out .at) (l .inv .0) more n (l .inv .3) (l .inv .4),
+      shift-done (a .k) (l .i) (a .t1 .at) (l .left .at) (l .inv .0) more n (l .inv .3) (l .inv .4),
+      shift-rest (a .k) (l .i) (a .t1 .at) (l .left .at) (l .inv .0) more n (l .inv .3) (l .inv .4),
     )
-
-sub-out : tie.Need-sub-out Inv-loop μ-loop
-sub-out c = omega arith
 
 returns : tie.Need-returns Inv-loop μ-loop
 returns c =
     let a = c .before .before .args in
     let l = c .before .loop in
-    let long : length (a .left .at) ≡ 512 = search needs in
-    let e : a .left .n - 1 ≡ l .i = omega arith in
-    let e₁ : l .i + 1 ≡ a .left .n = omega arith in (
+    let long : length (a .t1 .at) ≡ 512 = search needs in
+    let e : a .t1 .n - 1 ≡ l .i = omega arith in
+    let e₁ : l .i + 1 ≡ a .t1 .n = omega arith in (
       omega arith,
       l .inv .2,
-      ap (λ (j : ℕ). take j (l .out .at)) e
+      ap (λ (j : ℕ). take j (l .left .at)) e
           ∙ l .inv .3
-          ∙ take-without (a .k) (a .left .at) (l .i) (l .inv .0) (omega arith)
-          ∙ ap (λ (j : ℕ). without (a .k) (take j (a .left .at))) e₁,
+          ∙ take-without (a .k) (a .t1 .at) (l .i) (l .inv .0) (omega arith)
+          ∙ ap (λ (j : ℕ). without (a .k) (take j (a .t1 .at))) e₁,
     )
 
 pub without-spec : {M : Type 1} → statement M
@@ -82,15 +80,14 @@ without-spec =
     (tie.spec
     Inv-loop
     μ-loop
+    sub-last
     loop-holds
-    add-loop
-    add-out
-    mul-out
-    element-copy-out-out
-    mul-out-2
-    element-write-out
+    add-left
+    mul-left
+    element-copy-out-left
+    mul-left-2
+    element-write-left
     add-i
     loop-less
     loop-again
-    sub-out
     returns)

@@ -1,6 +1,6 @@
 -- `clipper::passes::finish` meets its contract. Assumes nothing.
 use denote.Ref.{now}
-use mathlib.Core.Path.{_≡_, refl, sym, ap, _∙_}
+use mathlib.Core.Path.{_≡_, _∙_}
 use native.Mathlib.Nat.{le-refl, le-add-right}
 use native.Mathlib.Omega.{arith}
 use lib.ListN.{getD}
@@ -21,13 +21,13 @@ element-copy-out-k : tie.Need-element-copy-out-k
 element-copy-out-k c = search needs
 
 place-requires : tie.Need-place-requires
-place-requires c κs = c .before .before .before .before .before .before .before .pre .1 .inside .there 0 (omega (arith, c .before .before .before .if1 .taken))
+place-requires c κs = c .before .before .before .before .before .before .pre .1 .there 0 (omega (arith, c .before .before .before .if1 .taken))
 
 place-requires-2 : tie.Need-place-requires-2
-place-requires-2 c κs = c .before .before .before .before .before .before .before .before .pre .1 .inside .there 1 (omega (arith, c .before .before .before .before .if1 .taken))
+place-requires-2 c κs = c .before .before .before .before .before .before .before .pre .1 .there 1 (omega (arith, c .before .before .before .before .if1 .taken))
 
 place-requires-3 : tie.Need-place-requires-3
-place-requires-3 c κs = c .before .before .before .before .before .before .before .before .before .pre .1 .inside .there 2 (omega (arith, c .before .before .before .before .before .if1 .taken))
+place-requires-3 c κs = c .before .before .before .before .before .before .before .before .pre .1 .there 2 (omega (arith, c .before .before .before .before .before .if1 .taken))
 
 cross-requires : tie.Need-cross-requires
 cross-requires c κs = search needs
@@ -43,30 +43,36 @@ same-length c = c .before .out .given
 
 returns : tie.Need-returns
 returns c =
-    let d = c .before .before .before .before .before .before .before .before .before .before .before .before .before .before .before .before in
+    let r = c .before .before .before .before .before in
+    let three = r .before .before .before .before .before .before .before in
+    let d = three .before .before .before in
     let a = d .args in
     let v = now (a .corners) in
-    let r = c .before .before .before .before .before in
-    let x : r .cross .result ≡ cross (point v (getD (a .w .left .at) 0 0)) (point v (getD (a .w .left .at) 1 0)) (point v (getD (a .w .left .at) 2 0)) =
+    let at = now (a .at) in
+    let x : r .cross .result ≡ cross (point v (getD at 0 0)) (point v (getD at 1 0)) (point v (getD at 2 0)) =
     r .cross .ensures ∙ (λ i. cross (r .before .before .before .place .ensures i) (r .before .before .place2 .ensures i) (r .before .place3 .ensures i)) in (
-      le-add-right (a .w .triangles) 1,
-      triangle-gives v (a .e) (a .w) (now (a .out)) _ _ (d .pre .1)
-          (c .before .before .before .before .before .before .before .before .before .before .before .before .if1 .taken) (c .before .before .put .kept .0) x
-          (c .before .before .before .before .if2 .taken) (c .before .before .put .ensures),
+      le-add-right (a .cut .triangles) 1,
+      triangle-gives v (a .e) at (a .n) (a .cut) (now (a .out)) (d .pre .1) (d .pre .2) (three .if1 .taken)
+          _ x _ (c .before .before .put .kept .0) (c .before .before .before .before .if2 .taken) (c .before .before .put .ensures),
     )
 
 returns-2 : tie.Need-returns-2
 returns-2 c =
-    let d = c .before .before .before .before .before .before .before .before .before .before .before .before in
+    let r = c .before in
+    let three = r .before .before .before .before .before .before .before in
+    let d = three .before .before .before in
     let a = d .args in
     let v = now (a .corners) in
-    let r = c .before in
-    let x : r .cross .result ≡ cross (point v (getD (a .w .left .at) 0 0)) (point v (getD (a .w .left .at) 1 0)) (point v (getD (a .w .left .at) 2 0)) =
+    let at = now (a .at) in
+    let x : r .cross .result ≡ cross (point v (getD at 0 0)) (point v (getD at 1 0)) (point v (getD at 2 0)) =
     r .cross .ensures ∙ (λ i. cross (r .before .before .before .place .ensures i) (r .before .before .place2 .ensures i) (r .before .place3 .ensures i)) in
-    (le-refl (a .w .triangles), flat-gives v (a .e) (a .w) (now (a .out)) _ (d .pre .1) (c .before .before .before .before .before .before .before .before .if1 .taken) x (c .if2 .left))
+    (le-refl (a .cut .triangles), flat-gives v (a .e) at (a .n) (a .cut) (now (a .out)) (d .pre .1) (d .pre .2) (three .if1 .taken) _ x (c .if2 .left))
 
 returns-3 : tie.Need-returns-3
-returns-3 c = let d = c .before .before .before .before in (le-refl (d .args .w .triangles), few-gives (now (d .args .corners)) (d .args .e) (d .args .w) (now (d .args .out)) (d .pre .1) (c .if1 .left))
+returns-3 c =
+    let d = c .before .before .before in
+    let a = d .args in
+    (le-refl (a .cut .triangles), few-gives (now (a .corners)) (a .e) (now (a .at)) (a .n) (a .cut) (now (a .out)) (d .pre .1) (d .pre .2) (c .if1 .left))
 
 pub finish-spec : {M : Type 1} → statement M
 finish-spec =
