@@ -9,7 +9,6 @@ ghost use Rattle.quads.specs.Quads.{Numbered};
 mod corners;
 
 pub use corners::is_vertex;
-pub use corners::weld_last;
 use math::Vec3;
 use weld::Welder;
 
