@@ -2,33 +2,24 @@
 use mathlib.Core.Path.{_≡_, refl}
 use mathlib.Core.Bool.{Bool, true, false}
 use mathlib.Core.List.{List}
-use mathlib.Core.Logic.{⊎-elim, _⊎_, inl, inr}
 use Prim.Native.Nat.{ℕ, _<_, _^_}
 use lib.ListN.{length}
 use lib.Ieee.{Float}
 use Rattle.math.specs.declared.Vec3.{Vec3}
 use Rattle.trimesh.specs.Mesh.{finiteV, plusZeroV}
 use Rattle.weld.specs.declared.Welder.{Welder}
-use Rattle.weld.specs.Rep.{Held, held, Ready, Runs}
-use Rattle.weld.specs.States.{unfinite}
+use Rattle.weld.specs.Rep.{Held, held, Ready}
 use Rattle.welding.specs.declared.Welded.{Welded}
 use Rattle.welding.specs.Steps.{PointRuns, TriangleRuns}
 use Rattle.welding.proofs.Point.{point-known}
 use Rattle.welding.proofs.Triangle.{linked-moved}
 use Rattle.quads.specs.declared.Quad.{Quad}
 use Rattle.quads.specs.Quads.{Known, Numbered}
-use Rattle.quads.proofs.Quads.{one-false, quad-stops, quad-numbered, first-moved, both-runs}
+use Rattle.quads.proofs.Quads.{quad-numbered, first-moved, both-runs}
 use Rattle.cells.specs.Cell.{turned, exchanged, SideRuns, TurnedSideRuns}
 use Rattle.cells.proofs.Turned.{cell-flipped, cell-straight}
 
 module _ (w : Welder) (vs : List Float) (ts ws : List ℕ) (R : Ready (held w vs ts ws)) where
-  -- b or c is not finite: nothing is written
-  pub side-stops : (flip : Bool) (a b c d : Vec3) → (finiteV b ≡ false) ⊎ (finiteV c ≡ false) → Runs (turned flip a b c d) (held w vs ts ws) (held (unfinite w) vs ts ws)
-  side-stops true a b c d n =
-      quad-stops w vs ts ws a d c b R (one-false (finiteV a) (finiteV d) (finiteV c) (finiteV b) (⊎-elim (λ e. inr (inr e)) (λ e. inr (inl e)) n))
-  side-stops false a b c d n =
-      quad-stops w vs ts ws a b c d R (one-false (finiteV a) (finiteV b) (finiteV c) (finiteV d) (⊎-elim (λ e. inl e) (λ e. inr (inl e)) n))
-
   pub side-runs : (b c : Vec3) (na nd : ℕ) (pb : Welded) (vs₁ : List Float) (ws₁ : List ℕ) (pc : Welded) (vs₂ : List Float) (ws₂ : List ℕ) (u : Welder) (ts₁ : List ℕ) (v : Welder) (ts₂ : List ℕ)
       → PointRuns b w vs ws pb vs₁ ws₁ → PointRuns c (pb .st) vs₁ ws₁ pc vs₂ ws₂
       → TriangleRuns na (pb .number) (pc .number) (pc .st) ts u ts₁ → TriangleRuns na (pc .number) nd u ts₁ v ts₂

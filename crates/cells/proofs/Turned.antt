@@ -2,16 +2,18 @@
 use mathlib.Core.Path.{_≡_, refl, sym, subst}
 use mathlib.Core.Bool.{Bool, true, false, _&&_, cond}
 use mathlib.Core.List.{List}
-use Prim.Native.Nat.{ℕ, _<_}
+use Prim.Native.Nat.{ℕ, _<_, _^_}
 use lib.Ieee.{Float}
 use Rattle.math.specs.declared.Vec3.{Vec3}
 use Rattle.balance.specs.Soup.{Tri}
 use Rattle.balance.specs.Grid.{quad}
 use Rattle.chain.proofs.Chains.{not-both}
 use Rattle.welding.specs.declared.Welded.{Welded}
-use Rattle.weld.specs.Rep.{Held}
+use Rattle.weld.specs.declared.Welder.{Welder}
+use Rattle.weld.specs.Rep.{Held, Linked}
 use Rattle.quads.specs.declared.Quad.{Quad}
 use Rattle.quads.specs.Quads.{Known, Numbered, quadWith, LastRuns}
+use Rattle.quads.proofs.Quads.{known-small}
 use Rattle.cells.specs.Cell.{turned, exchanged}
 
 module _ (a b c d : Vec3) (h : Held) (q : Quad) (vs : List Float) (ts ws : List ℕ) where
@@ -30,10 +32,17 @@ all-three true true z e = (refl, refl, e)
 all-three true false z e = absurd (not-both false e refl)
 all-three false y z e = absurd (not-both false e refl)
 
--- one of two numbers that are small is small
-pub pick-small : (flip : Bool) (x y z n : ℕ) → z ≡ cond flip x y → x < n → y < n → z < n
+-- the numbers of the two triangles are 32-bit numbers
+pick-small : (flip : Bool) (x y z n : ℕ) → z ≡ cond flip x y → x < n → y < n → z < n
 pick-small true x y z n e l k = subst (λ (m : ℕ). m < n) (sym e) l
 pick-small false x y z n e l k = subst (λ (m : ℕ). m < n) (sym e) k
+
+pub row-small : (flip : Bool) (w : Welder) (vs : List Float) (ws : List ℕ) (a b d : Vec3) (na nb nd second fourth : ℕ) → Linked w vs ws → w .finite ≡ true → w .room ≡ true
+    → Known w vs a na → Known w vs b nb → Known w vs d nd → second ≡ cond flip nd nb → fourth ≡ cond flip nb nd → (na < 2 ^ 32) × (second < 2 ^ 32) × (fourth < 2 ^ 32)
+row-small flip w vs ws a b d na nb nd second fourth L f r A B D p q =
+    let lb = known-small w vs ws b nb L f r B in
+    let ld = known-small w vs ws d nd L f r D in
+    (known-small w vs ws a na L f r A, pick-small flip nd nb second (2 ^ 32) p ld lb, pick-small flip nb nd fourth (2 ^ 32) q lb ld)
 
 -- a cell of which only c was looked up
 pub cell-last : (flip : Bool) (a b c d : Vec3) (na nb nd second fourth : ℕ) (h : Held) (t : Welded) (vs : List Float) (ts ws : List ℕ)

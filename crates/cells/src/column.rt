@@ -37,18 +37,16 @@ pub fn weld_in_column(
     let finite = w.finite;
     let room = w.room;
     if known & finite & room {
-        if !weld::is_finite(b) {
-            return quads::unnumbered(weld::stopped(w));
+        if weld::is_finite(b) {
+            if weld::is_finite(c) {
+                let e = weld::plus_zero(b);
+                let f = weld::plus_zero(c);
+                if flip {
+                    return weld_turned_side(vertices, triangles, work, w, e, f, na, nb, nc, nd);
+                }
+                return weld_side(vertices, triangles, work, w, e, f, na, nb, nc, nd);
+            }
         }
-        if !weld::is_finite(c) {
-            return quads::unnumbered(weld::stopped(w));
-        }
-        let e = weld::plus_zero(b);
-        let f = weld::plus_zero(c);
-        if flip {
-            return weld_turned_side(vertices, triangles, work, w, e, f, na, nb, nc, nd);
-        }
-        return weld_side(vertices, triangles, work, w, e, f, na, nb, nc, nd);
     }
     crate::weld_cell(
         vertices,

@@ -76,17 +76,21 @@ pub fn weld_in_row(
     let room = w.room;
     if known & finite & room {
         if quads::is_vertex(vertices, w, nd, d) {
-            let second = pick(flip, nd, nb);
-            let fourth = pick(flip, nb, nd);
-            let t = quads::weld_last(vertices, triangles, work, w, c, na, second, fourth, nc);
-            let st = t.st;
-            return Quad {
-                st,
-                a: na,
-                b: nb,
-                c: t.number,
-                d: nd,
-            };
+            if weld::is_finite(c) {
+                let second = pick(flip, nd, nb);
+                let fourth = pick(flip, nb, nd);
+                let t = welding::weld_point(vertices, work, w, weld::plus_zero(c), nc);
+                let st = t.st;
+                let u = welding::add_triangle(triangles, st, na, second, t.number);
+                let v = welding::add_triangle(triangles, u, na, t.number, fourth);
+                return Quad {
+                    st: v,
+                    a: na,
+                    b: nb,
+                    c: t.number,
+                    d: nd,
+                };
+            }
         }
     }
     weld_cell(

@@ -46,14 +46,12 @@ quad-finite true true false w = refl
 quad-finite true true true false = refl
 quad-finite true true true true = refl
 
--- a point is not finite
-pub one-false : (x y z w : Bool) → (y ≡ false) ⊎ ((z ≡ false) ⊎ (w ≡ false)) → (x && y && z && w) ≡ false
+-- the second or the third of four is not finite
+pub one-false : (x y z w : Bool) → (y ≡ false) ⊎ (z ≡ false) → (x && y && z && w) ≡ false
 one-false false y z w e = refl
 one-false true y z w (inl e) = rw e
 one-false true false z w (inr e) = refl
-one-false true true z w (inr (inl e)) = rw e
-one-false true true false w (inr (inr e)) = refl
-one-false true true true w (inr (inr e)) = e
+one-false true true z w (inr e) = rw e
 
 -- where a point is not finite, nothing is written
 pub quad-stops : (w : Welder) (vs : List Float) (ts ws : List ℕ) (a b c d : Vec3) → Ready (held w vs ts ws) → (finiteV a && finiteV b && finiteV c && finiteV d) ≡ false
@@ -187,4 +185,4 @@ pub last-stops : (w : Welder) (vs : List Float) (ts ws : List ℕ) → Ready (he
     → LastRuns c na nb nd (held w vs ts ws) (record { number = 0; st = unfinite w }) vs ts ws
 last-stops w vs ts ws R c na nb nd n a b d A B D =
     numbered-stopped (quad a b c d) a b c d (held w vs ts ws) (quadWith (record { number = 0; st = unfinite w }) na nb nd) vs ts ws refl
-    (quad-stops w vs ts ws a b c d R (one-false (finiteV a) (finiteV b) (finiteV c) (finiteV d) (inr (inl n))))
+    (quad-stops w vs ts ws a b c d R (one-false (finiteV a) (finiteV b) (finiteV c) (finiteV d) (inr n)))

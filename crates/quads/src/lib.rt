@@ -9,11 +9,10 @@ ghost use Rattle.quads.specs.Quads.{Numbered};
 mod corners;
 
 pub use corners::is_vertex;
-pub use corners::weld_last;
 use math::Vec3;
 use weld::Welder;
 
-// The state after a quad, and what its points' numbers are. Callers hand numbers on as guesses, or as numbers that are known.
+// The state after a quad, and what its points' numbers are. Callers hand them on as guesses, or as numbers that are known.
 pub struct Quad {
     pub st: Welder,
     pub a: usize,
@@ -81,7 +80,7 @@ pub fn weld_quad(
 }
 
 // A quad that was not welded: its numbers mean nothing.
-pub fn unnumbered(w: Welder) -> Quad
+fn unnumbered(w: Welder) -> Quad
     ensures { λ r. ⌜ r .st ≡ w ⌝ }
 {
     Quad {

@@ -1,15 +1,19 @@
 -- `cells::weld_in_row` meets its contract: where a, b and d are known, only c is looked up. Assumes nothing.
 use borrow.Author.Needs.{needs}
+use mathlib.Core.Path.{sym, _∙_}
+use native.Mathlib.Omega.{arith}
 use denote.Ref.{now}
-use Prim.Native.Nat.{_^_}
 use Rattle.weld.specs.Rep.{held}
-use Rattle.quads.proofs.Quads.{known-small}
-use Rattle.cells.proofs.Turned.{all-three, pick-small, cell-last}
+use Rattle.quads.proofs.Quads.{last-runs}
+use Rattle.cells.proofs.Turned.{all-three, row-small, cell-last}
 use Rattle.cells.proofs.weld_in_row.Statement.{statement}
 use Rattle.cells.proofs.weld_in_row.Tie as tie
 
 is-vertex-requires : tie.Need-is-vertex-requires
 is-vertex-requires c κs = search needs
+
+is-finite-requires : tie.Need-is-finite-requires
+is-finite-requires c κs = search needs
 
 pick-requires : tie.Need-pick-requires
 pick-requires c κs = search needs
@@ -17,24 +21,38 @@ pick-requires c κs = search needs
 pick-requires-2 : tie.Need-pick-requires-2
 pick-requires-2 c κs = search needs
 
-weld-last-requires : tie.Need-weld-last-requires
-weld-last-requires c κs =
-    let s = c .before .before .before .before .before .before .before .before .before .before .before .before in
+plus-zero-requires : tie.Need-plus-zero-requires
+plus-zero-requires c κs = sym (c .before .before .before .before .before .is-finite .ensures) ∙ c .before .before .before .before .if3 .taken
+
+weld-point-requires : tie.Need-weld-point-requires
+weld-point-requires c κs = search needs
+
+add-triangle-requires : tie.Need-add-triangle-requires
+add-triangle-requires c κs =
+    let s = c .before .before .before .before .before .before .before .before .before .before .before .before .before .before .before .before .before .before .before .before .before in
     let x = s .args in
-    let g = all-three (x .known) (x .w .finite) (x .w .room) (c .before .before .before .before .before .before .before .before .if1 .taken) in
+    let g = all-three (x .known) (x .w .finite) (x .w .room) (c .before .before .before .before .before .before .before .before .before .before .before .before .before .before .before .before .before .if1 .taken) in
     let k = s .pre .1 (g .0) in
-    let small = known-small (x .w) (now (x .vertices)) (now (x .work)) in
-    let sb = small (x .b) (x .nb) (s .pre .0 .linked) (g .1) (g .2) (k .1) in
-    let sd = small (x .d) (x .nd) (s .pre .0 .linked) (g .1) (g .2) (c .before .before .before .before .before .before .is-vertex .ensures (c .before .before .before .before .before .if2 .taken)) in (
-      s .pre .0,
-      (
-        g .1,
-        g .2,
-        small (x .a) (x .na) (s .pre .0 .linked) (g .1) (g .2) (k .0),
-        pick-small (x .flip) (x .nd) (x .nb) _ (2 ^ 32) (c .before .before .before .before .pick .ensures) sd sb,
-        pick-small (x .flip) (x .nb) (x .nd) _ (2 ^ 32) (c .before .before .before .pick2 .ensures) sb sd,
-      ),
-    )
+    let l = c .before .before .before .before .before .before .before .before .before .before .before .before .before .before .before .is-vertex .ensures (c .before .before .before .before .before .before .before .before .before .before .before .before .before .before .if2 .taken) in
+    let y = c .before .before .before .before .before .before .before .before .before .before .before .pick in
+    let z = c .before .before .before .before .before .before .before .before .before .before .pick2 in
+    let m = row-small (x .flip) (x .w) (now (x .vertices)) (now (x .work)) (x .a) (x .b) (x .d) (x .na) (x .nb) (x .nd) (y .result) (z .result) (s .pre .0 .linked) (g .1) (g .2) (k .0) (k .1) l
+    (y .ensures) (z .ensures) in
+    let t = c .before .before .before .before .before .before .weld-point .ensures in
+    (omega (arith, s .pre .0 .faces, t .faces), m .0, m .1, t .small)
+
+add-triangle-requires-2 : tie.Need-add-triangle-requires-2
+add-triangle-requires-2 c κs =
+    let s = c .before .before .before .before .before .before .before .before .before .before .before .before .before .before .before .before .before .before .before .before .before .before .before .before .before in
+    let x = s .args in
+    let g = all-three (x .known) (x .w .finite) (x .w .room) (c .before .before .before .before .before .before .before .before .before .before .before .before .before .before .before .before .before .before .before .before .before .if1 .taken) in
+    let k = s .pre .1 (g .0) in
+    let l = c .before .before .before .before .before .before .before .before .before .before .before .before .before .before .before .before .before .before .before .is-vertex .ensures (c .before .before .before .before .before .before .before .before .before .before .before .before .before .before .before .before .before .before .if2 .taken) in
+    let y = c .before .before .before .before .before .before .before .before .before .before .before .before .before .before .before .pick in
+    let z = c .before .before .before .before .before .before .before .before .before .before .before .before .before .before .pick2 in
+    let m = row-small (x .flip) (x .w) (now (x .vertices)) (now (x .work)) (x .a) (x .b) (x .d) (x .na) (x .nb) (x .nd) (y .result) (z .result) (s .pre .0 .linked) (g .1) (g .2) (k .0) (k .1) l
+    (y .ensures) (z .ensures) in
+    (c .before .before .before .add-triangle .ensures .faces, m .0, c .before .before .before .before .before .before .before .before .before .before .weld-point .ensures .small, m .2)
 
 same-length : tie.Need-same-length
 same-length c = search needs
@@ -47,13 +65,25 @@ same-length-3 c = search needs
 
 returns : tie.Need-returns
 returns c =
-    let s = c .before .before .before .before .before .before .before .before .before .before .before .before .before .before .before .before .before .before .before .before in
+    let s = c .before .before .before .before .before .before .before .before .before .before .before .before .before .before .before .before .before .before .before .before .before .before .before .before .before .before .before .before in
     let x = s .args in
-    let k = s .pre .1 (all-three (x .known) (x .w .finite) (x .w .room) (c .before .before .before .before .before .before .before .before .before .before .before .before .before .before .before .before .if1 .taken) .0) in
-    let t = c .before .before .before .before .before .before .before .weld-last in
-    cell-last (x .flip) (x .a) (x .b) (x .c) (x .d) (x .na) (x .nb) (x .nd) (c .before .before .before .before .before .before .before .before .before .before .before .before .pick .result) (c .before .before .before .before .before .before .before .before .before .before .before .pick2 .result)
-    (held (x .w) (now (x .vertices)) (now (x .triangles)) (now (x .work))) (t .result) _ _ _ (c .before .before .before .before .before .before .before .before .before .before .before .before .pick .ensures) (c .before .before .before .before .before .before .before .before .before .before .before .pick2 .ensures) (t .ensures)
-    (k .0) (k .1) (c .before .before .before .before .before .before .before .before .before .before .before .before .before .before .is-vertex .ensures (c .before .before .before .before .before .before .before .before .before .before .before .before .before .if2 .taken))
+    let g = all-three (x .known) (x .w .finite) (x .w .room) (c .before .before .before .before .before .before .before .before .before .before .before .before .before .before .before .before .before .before .before .before .before .before .before .before .if1 .taken) in
+    let k = s .pre .1 (g .0) in
+    let l = c .before .before .before .before .before .before .before .before .before .before .before .before .before .before .before .before .before .before .before .before .before .before .is-vertex .ensures (c .before .before .before .before .before .before .before .before .before .before .before .before .before .before .before .before .before .before .before .before .before .if2 .taken) in
+    let y = c .before .before .before .before .before .before .before .before .before .before .before .before .before .before .before .before .before .before .pick in
+    let z = c .before .before .before .before .before .before .before .before .before .before .before .before .before .before .before .before .before .pick2 in
+    let m = row-small (x .flip) (x .w) (now (x .vertices)) (now (x .work)) (x .a) (x .b) (x .d) (x .na) (x .nb) (x .nd) (y .result) (z .result) (s .pre .0 .linked) (g .1) (g .2) (k .0) (k .1) l
+    (y .ensures) (z .ensures) in
+    let t = c .before .before .before .before .before .before .before .before .before .before .before .before .before .weld-point in
+    let u = c .before .before .before .before .before .before .add-triangle in
+    let v = c .before .before .add-triangle2 in
+    let e = c .before .before .before .before .before .before .before .before .before .before .before .before .before .before .plus-zero in
+    cell-last (x .flip) (x .a) (x .b) (x .c) (x .d) (x .na) (x .nb) (x .nd) (y .result) (z .result)
+    (held (x .w) (now (x .vertices)) (now (x .triangles)) (now (x .work))) (record { number = t .result .number; st = v .result }) _ _ _ (y .ensures) (z .ensures)
+    (last-runs (x .w) (now (x .vertices)) (now (x .triangles)) (now (x .work)) (s .pre .0) (g .1) (g .2) (x .c) (e .result) (x .na) (y .result) (z .result)
+    (t .result) _ _ (u .result) _ (v .result) _ (sym (c .before .before .before .before .before .before .before .before .before .before .before .before .before .before .before .before .before .before .before .before .is-finite .ensures) ∙ c .before .before .before .before .before .before .before .before .before .before .before .before .before .before .before .before .before .before .before .if3 .taken) (e .ensures .0)
+    (t .ensures) (u .ensures) (v .ensures) (t .kept .0) (u .kept .0) (v .kept .0) (t .kept .1 .0) (m .0) (m .1) (m .2))
+    (k .0) (k .1) l
 
 weld-cell-requires : tie.Need-weld-cell-requires
 weld-cell-requires c κs = search needs
@@ -75,9 +105,13 @@ weld-in-row-spec =
     tie.close
     (tie.spec
     is-vertex-requires
+    is-finite-requires
     pick-requires
     pick-requires-2
-    weld-last-requires
+    plus-zero-requires
+    weld-point-requires
+    add-triangle-requires
+    add-triangle-requires-2
     same-length
     same-length-2
     same-length-3

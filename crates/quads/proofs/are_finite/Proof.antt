@@ -36,7 +36,7 @@ returns c =
 returns-2 : tie.Need-returns-2
 returns-2 c =
     let s = c .before .before .before .before .before .before in
-    sym (one-false (finiteV (s .args .a)) (finiteV (s .args .b)) (finiteV (s .args .c)) (finiteV (s .args .d)) (inr (inl (sym (c .before .is-finite3 .ensures) ∙ c .if3 .left))))
+    sym (one-false (finiteV (s .args .a)) (finiteV (s .args .b)) (finiteV (s .args .c)) (finiteV (s .args .d)) (inr (sym (c .before .is-finite3 .ensures) ∙ c .if3 .left)))
 
 returns-3 : tie.Need-returns-3
 returns-3 c =

@@ -1,58 +1,25 @@
 -- `cells::column::weld_in_column` meets its contract: where a and d are known, only b and c are looked up. Assumes nothing.
 use borrow.Author.Needs.{needs}
-use borrow.Author.Tests.{not-true, not-false}
-use mathlib.Core.Path.{sym, ap, _∙_}
-use mathlib.Core.Logic.{inl, inr}
+use mathlib.Core.Path.{sym, _∙_}
 use denote.Ref.{now}
-use Rattle.weld.specs.declared.Welder.{Welder}
 use Rattle.weld.specs.Rep.{held}
-use Rattle.quads.proofs.Quads.{known-small, numbered-stopped}
+use Rattle.quads.proofs.Quads.{known-small}
 use Rattle.cells.proofs.Turned.{all-three}
-use Rattle.cells.proofs.Side.{side-stops, side-straight, side-turned}
+use Rattle.cells.proofs.Side.{side-straight, side-turned}
 use Rattle.cells.proofs.column.weld_in_column.Statement.{statement}
 use Rattle.cells.proofs.column.weld_in_column.Tie as tie
 
 is-finite-requires : tie.Need-is-finite-requires
 is-finite-requires c κs = search needs
 
-stopped-requires : tie.Need-stopped-requires
-stopped-requires c κs = search needs
-
-unnumbered-requires : tie.Need-unnumbered-requires
-unnumbered-requires c κs = search needs
-
-returns : tie.Need-returns
-returns c =
-    let s = c .before .before .before .before .before .before .before .before in
-    let x = s .args in
-    let e = c .unnumbered .ensures ∙ c .before .stopped .ensures in
-    numbered-stopped _ (x .a) (x .b) (x .c) (x .d) _ (c .unnumbered .result) _ _ _ (ap (λ (w : Welder). w .finite) e)
-    (rw e (side-stops (x .w) (now (x .vertices)) (now (x .triangles)) (now (x .work)) (s .pre .0) (x .flip) (x .a) (x .b) (x .c) (x .d)
-    (inl (sym (c .before .before .before .is-finite .ensures) ∙ not-true _ (c .before .before .if2 .taken)))))
-
 is-finite-requires-2 : tie.Need-is-finite-requires-2
 is-finite-requires-2 c κs = search needs
 
-stopped-requires-2 : tie.Need-stopped-requires-2
-stopped-requires-2 c κs = search needs
-
-unnumbered-requires-2 : tie.Need-unnumbered-requires-2
-unnumbered-requires-2 c κs = search needs
-
-returns-2 : tie.Need-returns-2
-returns-2 c =
-    let s = c .before .before .before .before .before .before .before .before .before .before in
-    let x = s .args in
-    let e = c .unnumbered2 .ensures ∙ c .before .stopped2 .ensures in
-    numbered-stopped _ (x .a) (x .b) (x .c) (x .d) _ (c .unnumbered2 .result) _ _ _ (ap (λ (w : Welder). w .finite) e)
-    (rw e (side-stops (x .w) (now (x .vertices)) (now (x .triangles)) (now (x .work)) (s .pre .0) (x .flip) (x .a) (x .b) (x .c) (x .d)
-    (inr (sym (c .before .before .before .is-finite2 .ensures) ∙ not-true _ (c .before .before .if3 .taken)))))
-
 plus-zero-requires : tie.Need-plus-zero-requires
-plus-zero-requires c κs = sym (c .before .before .before .is-finite .ensures) ∙ not-false _ (c .before .before .if2 .left)
+plus-zero-requires c κs = sym (c .before .before .before .is-finite .ensures) ∙ c .before .before .if2 .taken
 
 plus-zero-requires-2 : tie.Need-plus-zero-requires-2
-plus-zero-requires-2 c κs = sym (c .before .before .is-finite2 .ensures) ∙ not-false _ (c .before .if3 .left)
+plus-zero-requires-2 c κs = sym (c .before .before .is-finite2 .ensures) ∙ c .before .if3 .taken
 
 weld-turned-side-requires : tie.Need-weld-turned-side-requires
 weld-turned-side-requires c κs =
@@ -79,15 +46,15 @@ same-length-2 c = search needs
 same-length-3 : tie.Need-same-length-3
 same-length-3 c = search needs
 
-returns-3 : tie.Need-returns-3
-returns-3 c =
+returns : tie.Need-returns
+returns c =
     let s = c .before .before .before .before .before .before .before .before .before .before .before .before .before .before .before .before .before .before .before .before .before in
     let x = s .args in
     let g = all-three (x .known) (x .w .finite) (x .w .room) (c .before .before .before .before .before .before .before .before .before .before .before .before .before .before .before .before .before .if1 .taken) in
     let k = s .pre .1 (g .0) in
     side-turned (x .a) (x .b) (x .c) (x .d) (c .before .before .before .before .before .before .before .before .before .before .before .before .plus-zero .result) (c .before .before .before .before .before .before .before .before .before .before .before .plus-zero2 .result) (x .na) (x .nd)
     (held (x .w) (now (x .vertices)) (now (x .triangles)) (now (x .work))) (c .before .before .before .before .before .before .weld-turned-side .result) _ _ _ (g .1) (g .2) (k .0) (k .1)
-    (sym (c .before .before .before .before .before .before .before .before .before .before .before .before .before .before .before .before .is-finite .ensures) ∙ not-false _ (c .before .before .before .before .before .before .before .before .before .before .before .before .before .before .before .if2 .left)) (sym (c .before .before .before .before .before .before .before .before .before .before .before .before .before .before .is-finite2 .ensures) ∙ not-false _ (c .before .before .before .before .before .before .before .before .before .before .before .before .before .if3 .left))
+    (sym (c .before .before .before .before .before .before .before .before .before .before .before .before .before .before .before .before .is-finite .ensures) ∙ c .before .before .before .before .before .before .before .before .before .before .before .before .before .before .before .if2 .taken) (sym (c .before .before .before .before .before .before .before .before .before .before .before .before .before .before .is-finite2 .ensures) ∙ c .before .before .before .before .before .before .before .before .before .before .before .before .before .if3 .taken)
     (c .before .before .before .before .before .before .before .before .before .before .before .before .plus-zero .ensures .0) (c .before .before .before .before .before .before .before .before .before .before .before .plus-zero2 .ensures .0) (x .flip) (c .before .before .before .before .before .before .before .before .before .before .if4 .taken) (c .before .before .before .before .before .before .weld-turned-side .ensures)
 
 weld-side-requires : tie.Need-weld-side-requires
@@ -115,15 +82,15 @@ same-length-5 c = search needs
 same-length-6 : tie.Need-same-length-6
 same-length-6 c = search needs
 
-returns-4 : tie.Need-returns-4
-returns-4 c =
+returns-2 : tie.Need-returns-2
+returns-2 c =
     let s = c .before .before .before .before .before .before .before .before .before .before .before .before .before .before .before .before .before .before .before .before .before in
     let x = s .args in
     let g = all-three (x .known) (x .w .finite) (x .w .room) (c .before .before .before .before .before .before .before .before .before .before .before .before .before .before .before .before .before .if1 .taken) in
     let k = s .pre .1 (g .0) in
     side-straight (x .a) (x .b) (x .c) (x .d) (c .before .before .before .before .before .before .before .before .before .before .before .before .plus-zero .result) (c .before .before .before .before .before .before .before .before .before .before .before .plus-zero2 .result) (x .na) (x .nd)
     (held (x .w) (now (x .vertices)) (now (x .triangles)) (now (x .work))) (c .before .before .before .before .before .before .weld-side .result) _ _ _ (g .1) (g .2) (k .0) (k .1)
-    (sym (c .before .before .before .before .before .before .before .before .before .before .before .before .before .before .before .before .is-finite .ensures) ∙ not-false _ (c .before .before .before .before .before .before .before .before .before .before .before .before .before .before .before .if2 .left)) (sym (c .before .before .before .before .before .before .before .before .before .before .before .before .before .before .is-finite2 .ensures) ∙ not-false _ (c .before .before .before .before .before .before .before .before .before .before .before .before .before .if3 .left))
+    (sym (c .before .before .before .before .before .before .before .before .before .before .before .before .before .before .before .before .is-finite .ensures) ∙ c .before .before .before .before .before .before .before .before .before .before .before .before .before .before .before .if2 .taken) (sym (c .before .before .before .before .before .before .before .before .before .before .before .before .before .before .is-finite2 .ensures) ∙ c .before .before .before .before .before .before .before .before .before .before .before .before .before .if3 .taken)
     (c .before .before .before .before .before .before .before .before .before .before .before .before .plus-zero .ensures .0) (c .before .before .before .before .before .before .before .before .before .before .before .plus-zero2 .ensures .0) (x .flip) (c .before .before .before .before .before .before .before .before .before .before .if4 .left) (c .before .before .before .before .before .before .weld-side .ensures)
 
 weld-cell-requires : tie.Need-weld-cell-requires
@@ -138,35 +105,29 @@ same-length-8 c = search needs
 same-length-9 : tie.Need-same-length-9
 same-length-9 c = search needs
 
-returns-5 : tie.Need-returns-5
-returns-5 c = search needs
+returns-3 : tie.Need-returns-3
+returns-3 c = search needs
 
 pub weld-in-column-spec : {M : Type 1} → statement M
 weld-in-column-spec =
     tie.close
     (tie.spec
     is-finite-requires
-    stopped-requires
-    unnumbered-requires
-    returns
     is-finite-requires-2
-    stopped-requires-2
-    unnumbered-requires-2
-    returns-2
     plus-zero-requires
     plus-zero-requires-2
     weld-turned-side-requires
     same-length
     same-length-2
     same-length-3
-    returns-3
+    returns
     weld-side-requires
     same-length-4
     same-length-5
     same-length-6
-    returns-4
+    returns-2
     weld-cell-requires
     same-length-7
     same-length-8
     same-length-9
-    returns-5)
+    returns-3)
