@@ -10,8 +10,8 @@ use math::Vec3;
 use quads::Quad;
 use weld::Welder;
 
-// One cell where `known` may say that na and nd are the numbers of a and d, as after the cell before in a column: only b and c are
-// tested for being finite, and looked up.
+// One cell: the quad a, b, c, d, or where flip says so a, d, c, b. Where `known` is true, na and nd are the numbers of a and d, as after
+// the cell before in a column, and only b and c are tested for being finite, and looked up. The other numbers are guesses.
 pub fn weld_in_column(
     vertices: &mut [f64],
     triangles: &mut [u32],

@@ -48,8 +48,8 @@ fn weld_cell(
     quads::weld_quad(vertices, triangles, work, w, a, b, c, d, na, nb, nc, nd)
 }
 
-// The same where `known` may say that na and nb are the numbers of a and b, as after the cell before in a row: where the guess at d is
-// right, too, only c is tested for being finite, and looked up.
+// The same. Where `known` is true, na and nb are the numbers of a and b, as after the cell before in a row. If the guess at d is right
+// as well, only c is tested for being finite, and looked up.
 pub fn weld_in_row(
     vertices: &mut [f64],
     triangles: &mut [u32],

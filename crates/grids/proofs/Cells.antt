@@ -4,7 +4,6 @@ use mathlib.Core.Bool.{Bool, true, false}
 use mathlib.Core.List.{_++_}
 use Prim.Native.Nat.{ℕ, _+_}
 use Rattle.math.specs.declared.Vec3.{Vec3}
-use Rattle.balance.specs.Grid.{upto}
 use Rattle.balance.specs.Buffer.{upto-more}
 use Rattle.weld.specs.Rep.{Held, Ready, Runs}
 use Rattle.weld.specs.Runs.{runs-none, runs-then, runs-as}

@@ -1,6 +1,7 @@
 -- `cells::column::weld_in_column` meets its contract: where a and d are known, only b and c are looked up. Assumes nothing.
 use borrow.Author.Needs.{needs}
 use mathlib.Core.Path.{sym, _∙_}
+use native.Mathlib.Omega.{arith}
 use denote.Ref.{now}
 use Rattle.weld.specs.Rep.{held}
 use Rattle.quads.proofs.Quads.{known-small}
@@ -27,13 +28,15 @@ weld-turned-side-requires c κs =
     let x = s .args in
     let g = all-three (x .known) (x .w .finite) (x .w .room) (c .before .before .before .before .before .before .before .before .before .before .if1 .taken) in
     let k = s .pre .1 (g .0) in
-    let small = known-small (x .w) (now (x .vertices)) (now (x .work)) in (
+    let small = known-small (x .w) (now (x .vertices)) (now (x .work)) in
+    let sa = small (x .a) (x .na) (s .pre .0 .linked) (g .1) (g .2) (k .0) in
+    let sd = small (x .d) (x .nd) (s .pre .0 .linked) (g .1) (g .2) (k .1) in (
       s .pre .0,
       (
         c .before .before .before .before .before .plus-zero .ensures .1,
         c .before .before .before .before .plus-zero2 .ensures .1,
-        small (x .a) (x .na) (s .pre .0 .linked) (g .1) (g .2) (k .0),
-        small (x .d) (x .nd) (s .pre .0 .linked) (g .1) (g .2) (k .1),
+        omega (arith, sa, sd),
+        omega (arith, sa, sd),
       ),
     )
 
@@ -63,13 +66,15 @@ weld-side-requires c κs =
     let x = s .args in
     let g = all-three (x .known) (x .w .finite) (x .w .room) (c .before .before .before .before .before .before .before .before .before .before .if1 .taken) in
     let k = s .pre .1 (g .0) in
-    let small = known-small (x .w) (now (x .vertices)) (now (x .work)) in (
+    let small = known-small (x .w) (now (x .vertices)) (now (x .work)) in
+    let sa = small (x .a) (x .na) (s .pre .0 .linked) (g .1) (g .2) (k .0) in
+    let sd = small (x .d) (x .nd) (s .pre .0 .linked) (g .1) (g .2) (k .1) in (
       s .pre .0,
       (
         c .before .before .before .before .before .plus-zero .ensures .1,
         c .before .before .before .before .plus-zero2 .ensures .1,
-        small (x .a) (x .na) (s .pre .0 .linked) (g .1) (g .2) (k .0),
-        small (x .d) (x .nd) (s .pre .0 .linked) (g .1) (g .2) (k .1),
+        omega (arith, sa, sd),
+        omega (arith, sa, sd),
       ),
     )
 

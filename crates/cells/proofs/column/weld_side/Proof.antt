@@ -23,7 +23,9 @@ add-triangle-requires c κs =
 add-triangle-requires-2 : tie.Need-add-triangle-requires-2
 add-triangle-requires-2 c κs =
     let s = c .before .before .before .before .before .before .before .before .before .before .before .before .before .before .before .before .before .before .before .before .before .before .before .before .pre .1 in
-    (c .before .before .before .add-triangle .ensures .faces, s .2, c .before .before .before .before .before .before .before .before .before .before .weld-point2 .ensures .small, s .3)
+    let x = c .before .before .before .before .before .before .before .before .before .before .before .before .before .before .before .before .before .before .weld-point .ensures .small in
+    let y = c .before .before .before .before .before .before .before .before .before .before .weld-point2 .ensures .small in
+    (c .before .before .before .add-triangle .ensures .faces, omega (arith, s .2, s .3, x, y), omega (arith, s .2, s .3, x, y), omega (arith, s .2, s .3, x, y))
 
 same-length : tie.Need-same-length
 same-length c = c .before .before .before .before .before .before .before .before .before .before .before .before .before .weld-point2 .kept .0 ∙ c .before .before .before .before .before .before .before .before .before .before .before .before .before .before .before .before .before .before .before .before .before .weld-point .kept .0

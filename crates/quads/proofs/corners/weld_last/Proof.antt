@@ -2,6 +2,7 @@
 use borrow.Author.Needs.{needs}
 use borrow.Author.Tests.{not-true, not-false}
 use mathlib.Core.Path.{sym, _∙_}
+use native.Mathlib.Omega.{arith}
 use denote.Ref.{now}
 use Rattle.quads.proofs.Quads.{last-runs, last-stops}
 use Rattle.quads.proofs.corners.weld_last.Statement.{statement}
@@ -31,7 +32,8 @@ add-triangle-requires c κs = search needs
 add-triangle-requires-2 : tie.Need-add-triangle-requires-2
 add-triangle-requires-2 c κs =
     let p = c .before .before .before .before .before .before .before .before .before .before .before .before .before .before .before .before .before .before .before .pre .1 in
-    (c .before .before .before .add-triangle .ensures .faces, p .2, c .before .before .before .before .before .before .before .before .before .before .weld-point .ensures .small, p .4)
+    let q = c .before .before .before .before .before .before .before .before .before .before .weld-point .ensures .small in
+    (c .before .before .before .add-triangle .ensures .faces, omega (arith, p .2, p .3, p .4, q), omega (arith, p .2, p .3, p .4, q), omega (arith, p .2, p .3, p .4, q))
 
 same-length : tie.Need-same-length
 same-length c = search needs
