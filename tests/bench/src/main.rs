@@ -4,6 +4,8 @@ mod inputs;
 mod ours;
 mod rows;
 
+use rows::Side;
+
 /// A sample lasts at least this long: small calls are repeated within it.
 const SAMPLE_NS: f64 = 5e6;
 
@@ -33,33 +35,42 @@ fn main() {
 
 /// Medians, ns a triangle.
 fn time(row: &mut rows::Row, repetitions: usize) -> (f64, f64) {
-    let mut nothing = |_| ();
-    let (n, m) = (calls(&mut nothing, &mut row.ours), calls(&mut row.prepare, &mut row.rust));
+    let (n, m) = (calls(&mut row.ours), calls(&mut row.rust));
     let (mut ours, mut rust) = (Vec::new(), Vec::new());
     for _ in 0..repetitions {
-        ours.push(sample(&mut nothing, &mut row.ours, n));
-        rust.push(sample(&mut row.prepare, &mut row.rust, m));
+        ours.push(sample(&mut row.ours, n));
+        rust.push(sample(&mut row.rust, m));
     }
     (median(ours) / row.triangles as f64, median(rust) / row.triangles as f64)
 }
 
 /// How many calls make a sample; also warms up.
-fn calls(prepare: &mut dyn FnMut(usize), call: &mut dyn FnMut()) -> usize {
+fn calls(side: &mut Side) -> usize {
     let mut n = 1;
-    while sample(prepare, call, n) * (n as f64) < SAMPLE_NS {
+    while sample(side, n) * (n as f64) < SAMPLE_NS {
         n *= 2;
     }
     n
 }
 
-/// Nanoseconds a call, over n calls, which are prepared before the time is taken.
-fn sample(prepare: &mut dyn FnMut(usize), call: &mut dyn FnMut(), n: usize) -> f64 {
-    prepare(n);
+/// Nanoseconds a call, over n calls. A call that is prepared is timed by itself, without its preparation.
+fn sample(side: &mut Side, n: usize) -> f64 {
+    let spent = match side {
+        Side::Again(call) => timed(|| (0..n).for_each(|_| call())),
+        Side::Prepared { prepare, call } => (0..n)
+            .map(|_| {
+                prepare();
+                timed(&mut *call)
+            })
+            .sum(),
+    };
+    spent / n as f64
+}
+
+fn timed(mut call: impl FnMut()) -> f64 {
     let begin = now();
-    for _ in 0..n {
-        call();
-    }
-    (now() - begin) / n as f64
+    call();
+    now() - begin
 }
 
 fn median(mut times: Vec<f64>) -> f64 {

@@ -14,15 +14,33 @@ pub struct Row {
     pub name: &'static str,
     /// By which the time of a call is divided.
     pub triangles: usize,
-    pub ours: Box<dyn FnMut()>,
-    /// What so many calls of the Rust need beforehand; its time does not count.
-    pub prepare: Box<dyn FnMut(usize)>,
-    pub rust: Box<dyn FnMut()>,
+    pub ours: Side,
+    pub rust: Side,
 }
 
-/// Calls that need nothing beforehand.
-fn unprepared() -> Box<dyn FnMut(usize)> {
-    Box::new(|_| ())
+/// How a side of a row is called.
+pub enum Side {
+    /// Again and again, on the same input.
+    Again(Box<dyn FnMut()>),
+    /// Each time on an input that is made anew; making it does not count.
+    Prepared { prepare: Box<dyn FnMut()>, call: Box<dyn FnMut()> },
+}
+
+fn again(call: impl FnMut() + 'static) -> Side {
+    Side::Again(Box::new(call))
+}
+
+/// A call on what `make` makes. The result is dropped before the next one is made, outside of the time.
+fn prepared<T: 'static>(mut make: impl FnMut() -> T + 'static, mut call: impl FnMut(&mut T) + 'static) -> Side {
+    let made = Rc::new(RefCell::new(None));
+    let taken = Rc::clone(&made);
+    Side::Prepared {
+        prepare: Box::new(move || {
+            made.take();
+            made.replace(Some(make()));
+        }),
+        call: Box::new(move || call(taken.borrow_mut().as_mut().expect("an input for each call"))),
+    }
 }
 
 /// The rows by name; a row is built when it is run.
@@ -37,8 +55,8 @@ pub const ROWS: [(&str, fn(&'static str) -> Row); 15] = [
     ("wire 256 32/16", wire),
     ("area", area),
     ("signed_volume", signed_volume),
-    ("append", append),
-    ("append growing", append_growing),
+    ("append to a new mesh", append_to_new),
+    ("append with room", append_with_room),
     ("flip", flip),
     ("transform", transform),
     ("from_soup 1000000", from_soup),
@@ -62,15 +80,15 @@ fn solid(name: &'static str, solid: Solid, primitive: Primitive, segments: usize
     Row {
         name,
         triangles: mesh.triangles.len(),
-        ours: Box::new(move || _ = black_box(ours::tessellate(black_box(&solid), segments, rings, &mut lent))),
-        prepare: unprepared(),
-        rust: Box::new(move || _ = black_box(tessellate(black_box(&primitive), Cartesian, &options))),
+        ours: again(move || _ = black_box(ours::tessellate(black_box(&solid), segments, rings, &mut lent))),
+        rust: again(move || _ = black_box(tessellate(black_box(&primitive), Cartesian, &options))),
     }
 }
 
+const CENTER: [f64; 3] = [0.5, 1.0, 2.0];
+
 fn sphere(name: &'static str, segments: usize, rings: usize) -> Row {
-    let center = [0.5, 1.0, 2.0];
-    solid(name, Solid::Sphere(center, 1.5), Sphere::new(center, 1.5).into(), segments, rings)
+    solid(name, Solid::Sphere(CENTER, 1.5), Sphere::new(CENTER, 1.5).into(), segments, rings)
 }
 
 fn cylinder(name: &'static str) -> Row {
@@ -105,12 +123,17 @@ fn wire(name: &'static str) -> Row {
     solid(name, Solid::Wire(0.05, points), primitive, 32, 16)
 }
 
+/// The sphere of the mesh rows, by the Rust.
+fn ball() -> TriMesh {
+    let options = TessellationOptions::default().with_segments(256).with_sphere_rings(128);
+    tessellate(&Sphere::new(CENTER, 1.5).into(), Cartesian, &options)
+}
+
 /// The sphere of the mesh rows, on both sides, in slices with places for `times` as much.
 fn meshes(name: &str, times: usize) -> (Lent, TriMesh) {
-    let options = TessellationOptions::default().with_segments(256).with_sphere_rings(128);
-    let mesh = tessellate(&Sphere::new([0.5, 1.0, 2.0], 1.5).into(), Cartesian, &options);
+    let mesh = ball();
     let mut lent = Lent::new(times * mesh.vertices.len(), times * mesh.triangles.len());
-    agree(name, ours::tessellate(&Solid::Sphere([0.5, 1.0, 2.0], 1.5), 256, 128, &mut lent), &lent, &mesh);
+    agree(name, ours::tessellate(&Solid::Sphere(CENTER, 1.5), 256, 128, &mut lent), &lent, &mesh);
     (lent, mesh)
 }
 
@@ -124,9 +147,8 @@ fn area(name: &'static str) -> Row {
     Row {
         name,
         triangles: mesh.triangles.len(),
-        ours: Box::new(move || _ = black_box(ours::area(black_box(&lent)))),
-        prepare: unprepared(),
-        rust: Box::new(move || _ = black_box(black_box(&mesh).area())),
+        ours: again(move || _ = black_box(ours::area(black_box(&lent)))),
+        rust: again(move || _ = black_box(black_box(&mesh).area())),
     }
 }
 
@@ -136,48 +158,38 @@ fn signed_volume(name: &'static str) -> Row {
     Row {
         name,
         triangles: mesh.triangles.len(),
-        ours: Box::new(move || _ = black_box(ours::signed_volume(black_box(&lent)))),
-        prepare: unprepared(),
-        rust: Box::new(move || _ = black_box(black_box(&mesh).signed_volume())),
+        ours: again(move || _ = black_box(ours::signed_volume(black_box(&lent)))),
+        rust: again(move || _ = black_box(black_box(&mesh).signed_volume())),
     }
 }
 
-/// Our append, from n vertices and k triangles on at each call.
-fn append_again(mut lent: Lent, other: Lent, n: usize, k: usize) -> Box<dyn FnMut()> {
-    Box::new(move || {
-        (lent.vertex_count, lent.triangle_count) = (n, k);
-        black_box(ours::append(black_box(&mut lent), &other));
-    })
-}
-
-/// The sphere appended to itself. Ours gets the first counts again before each call. The Rust's lists are as `tessellate` leaves them, without
-/// room for more, and grow in the call; ours has room in both rows. The triangles that are appended count.
-fn append_growing(name: &'static str) -> Row {
+/// The sphere appended to the sphere, each time to one that `tessellate` has just made: ours in slices with places for both,
+/// the Rust's in lists as its `tessellate` leaves them, which grow in the call. The triangles that are appended count.
+fn append_to_new(name: &'static str) -> Row {
     let (other, more) = meshes(name, 1);
-    let (mut lent, mesh) = meshes(name, 2);
-    let (n, k) = (mesh.vertices.len(), mesh.triangles.len());
-    let mut twice = mesh.clone();
-    twice.append(&more);
-    agree(name, ours::append(&mut lent, &other), &lent, &twice);
-    let pool = Rc::new(RefCell::new((Vec::new(), Vec::new())));
-    let filled = Rc::clone(&pool);
+    let (mut lent, mut mesh) = meshes(name, 2);
+    let triangles = mesh.triangles.len();
+    mesh.append(&more);
+    agree(name, ours::append(&mut lent, &other), &lent, &mesh);
+    let lent = Rc::new(RefCell::new(lent));
     Row {
         name,
-        triangles: k,
-        ours: append_again(lent, other, n, k),
-        prepare: Box::new(move |calls| *filled.borrow_mut() = (vec![mesh.clone(); calls], Vec::with_capacity(calls))),
-        rust: Box::new(move || {
-            let (waiting, done) = &mut *pool.borrow_mut();
-            let mut mesh: TriMesh = waiting.pop().expect("a mesh for each call");
-            black_box(&mut mesh).append(&more);
-            // Kept, so that dropping it does not count.
-            done.push(mesh);
-        }),
+        triangles,
+        ours: prepared(
+            move || {
+                let refusal = ours::tessellate(&Solid::Sphere(CENTER, 1.5), 256, 128, &mut lent.borrow_mut());
+                assert_eq!(refusal, 0, "{name}: refused");
+                Rc::clone(&lent)
+            },
+            move |lent| _ = black_box(ours::append(black_box(&mut lent.borrow_mut()), &other)),
+        ),
+        rust: prepared(ball, move |mesh| black_box(mesh).append(&more)),
     }
 }
 
-/// The same where the Rust's lists are cut back and keep their capacity, so that neither side allocates.
-fn append(name: &'static str) -> Row {
+/// The same on meshes that are cut back to their first counts before each call. The Rust's lists keep their capacity, so that
+/// neither side allocates.
+fn append_with_room(name: &'static str) -> Row {
     let (other, more) = meshes(name, 1);
     let (mut lent, mut mesh) = meshes(name, 2);
     let (n, k) = (mesh.vertices.len(), mesh.triangles.len());
@@ -186,9 +198,11 @@ fn append(name: &'static str) -> Row {
     Row {
         name,
         triangles: k,
-        ours: append_again(lent, other, n, k),
-        prepare: unprepared(),
-        rust: Box::new(move || {
+        ours: again(move || {
+            (lent.vertex_count, lent.triangle_count) = (n, k);
+            black_box(ours::append(black_box(&mut lent), &other));
+        }),
+        rust: again(move || {
             mesh.vertices.truncate(n);
             mesh.triangles.truncate(k);
             black_box(&mut mesh).append(&more);
@@ -203,9 +217,8 @@ fn flip(name: &'static str) -> Row {
     Row {
         name,
         triangles: mesh.triangles.len(),
-        ours: Box::new(move || _ = black_box(ours::flip(black_box(&mut lent)))),
-        prepare: unprepared(),
-        rust: Box::new(move || black_box(&mut mesh).flip()),
+        ours: again(move || _ = black_box(ours::flip(black_box(&mut lent)))),
+        rust: again(move || black_box(&mut mesh).flip()),
     }
 }
 
@@ -221,9 +234,8 @@ fn transform(name: &'static str) -> Row {
     Row {
         name,
         triangles: mesh.triangles.len(),
-        ours: Box::new(move || _ = black_box(ours::transform(black_box(&mut lent), axis, angle, by))),
-        prepare: unprepared(),
-        rust: Box::new(move || black_box(&mut mesh).transform(&black_box(matrix()))),
+        ours: again(move || _ = black_box(ours::transform(black_box(&mut lent), axis, angle, by))),
+        rust: again(move || black_box(&mut mesh).transform(&black_box(matrix()))),
     }
 }
 
@@ -239,8 +251,7 @@ fn from_soup(name: &'static str) -> Row {
     Row {
         name,
         triangles: mesh.triangles.len(),
-        ours: Box::new(move || _ = black_box(ours::from_soup(black_box(&floats), &mut lent))),
-        prepare: unprepared(),
-        rust: Box::new(move || _ = black_box(TriMesh::from_soup(black_box(&soup)))),
+        ours: again(move || _ = black_box(ours::from_soup(black_box(&floats), &mut lent))),
+        rust: again(move || _ = black_box(TriMesh::from_soup(black_box(&soup)))),
     }
 }
