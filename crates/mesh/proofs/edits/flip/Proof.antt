@@ -10,7 +10,7 @@ use Rattle.mesh.specs.Edits.{flipOf}
 use Rattle.triples.specs.Triples.{eachTo}
 use Rattle.meshcheck.proofs.Stored.{stored-flip}
 use Rattle.mesh.proofs.Given.{gives-kept, gives-done}
-use Rattle.mesh.proofs.Accepted.{check-sound}
+use Rattle.meshcheck.proofs.Sound.{check-sound}
 use borrow.Author.Needs.{needs}
 use Rattle.mesh.proofs.edits.flip.Statement.{statement}
 use Rattle.mesh.proofs.edits.flip.Tie as tie

@@ -1,14 +1,15 @@
--- `mesh::measures::bounding_box` meets its contract. Assumes nothing.
+-- `meshmeasures::bounding_box` meets its contract. Assumes nothing.
 use denote.Ref.{now}
 use mathlib.Core.Path.{_≡_, sym, _∙_}
 use mathlib.Core.Bool.{true, false}
+use native.Mathlib.Omega.{arith}
 use borrow.Author.Tests.{not-true, not-false}
 use Rattle.meshcheck.specs.State.{state, isAccepted}
-use Rattle.mesh.proofs.Accepted.{check-sound}
-use Rattle.mesh.proofs.Readings.{box-refused, box-done}
+use Rattle.meshcheck.proofs.Sound.{check-sound}
+use Rattle.meshmeasures.proofs.Readings.{box-refused, box-done}
 use borrow.Author.Needs.{needs}
-use Rattle.mesh.proofs.measures.bounding_box.Statement.{statement}
-use Rattle.mesh.proofs.measures.bounding_box.Tie as tie
+use Rattle.meshmeasures.proofs.bounding_box.Statement.{statement}
+use Rattle.meshmeasures.proofs.bounding_box.Tie as tie
 
 check-requires : tie.Need-check-requires
 check-requires c κs = search needs
@@ -33,7 +34,7 @@ box-of-requires c κs =
     let s = state (a .mesh) (now (a .vertices)) (now (a .triangles)) in
     let r = c .before .before .check in
     let h : isAccepted (r .result) ≡ true = sym (c .before .accepted .ensures) ∙ not-false _ (c .if1 .left) in
-    check-sound s (r .result) (r .ensures) h .vertices
+    omega (arith, check-sound s (r .result) (r .ensures) h .vertices)
 
 plus-zero-requires : tie.Need-plus-zero-requires
 plus-zero-requires c κs = search needs

@@ -1,10 +1,22 @@
-// The measures of a mesh. They change nothing.
+// The measures of a mesh in lent slices. Each checks the mesh first. They change nothing.
 ghost use mathlib.Core.Path.{_≡_};
 ghost use Rattle.meshcheck.specs.State.{state};
-ghost use Rattle.mesh.specs.Measures.{signedVolumeOf, areaOf, enclosedVolumeOf, boundingBoxOf};
-use crate::Boxed;
-use crate::Measured;
+ghost use Rattle.meshmeasures.specs.Measures.{signedVolumeOf, areaOf, enclosedVolumeOf, boundingBoxOf};
+use math::BoundingBox;
 use meshcheck::TriMesh;
+use refusal::Refusal;
+
+// What a measure answers: refused or accepted, and the bits of the area or volume, 0 where it was refused.
+pub struct Measured {
+    pub refusal: Refusal,
+    pub bits: u64,
+}
+
+// What bounding_box answers: refused or accepted, and the box, all zero where it was refused.
+pub struct Boxed {
+    pub refusal: Refusal,
+    pub bounds: BoundingBox,
+}
 
 // The volume that the triangles enclose, positive where they are counter-clockwise seen from outside.
 pub fn signed_volume(mesh: TriMesh, vertices: &[f64], triangles: &[u32]) -> Measured

@@ -4,8 +4,8 @@ use lib.Ieee.{Float, binary64, toBits}
 use Rattle.trimesh.specs.Mesh.{Mesh}
 use Rattle.trimesh.specs.Measures.{signedVolume, area, enclosedVolume, boundingBox}
 use Rattle.extents.specs.ZeroBox.{zeroBox}
-use Rattle.mesh.specs.declared.Measured.{Measured}
-use Rattle.mesh.specs.declared.Boxed.{Boxed}
+use Rattle.meshmeasures.specs.declared.Measured.{Measured}
+use Rattle.meshmeasures.specs.declared.Boxed.{Boxed}
 use Rattle.meshcheck.specs.State.{State, meshOf, checkOf, isAccepted}
 
 -- an area or volume is answered as its bits; a NaN's are 7FF8000000000000

@@ -1,16 +1,16 @@
--- `mesh::measures::area` meets its contract. Assumes nothing.
+-- `meshmeasures::area` meets its contract. Assumes nothing.
 use denote.Ref.{now}
 use mathlib.Core.Path.{_≡_, sym, ap, _∙_}
 use mathlib.Core.Bool.{true, false}
 use borrow.Author.Tests.{not-true, not-false}
 use Rattle.meshcheck.specs.State.{state, meshOf, isAccepted}
-use Rattle.mesh.proofs.Accepted.{check-sound}
-use Rattle.mesh.proofs.Readings.{all-within, sum-is, measure-refused, measure-done}
+use Rattle.meshcheck.proofs.Sound.{check-sound}
+use Rattle.meshmeasures.proofs.Readings.{all-within, sum-is, measure-refused, measure-done}
 use lib.Ieee.{binary64, ofBits}
 use Rattle.trimesh.specs.Measures.{area, areaTerm}
 use borrow.Author.Needs.{needs}
-use Rattle.mesh.proofs.measures.area.Statement.{statement}
-use Rattle.mesh.proofs.measures.area.Tie as tie
+use Rattle.meshmeasures.proofs.area.Statement.{statement}
+use Rattle.meshmeasures.proofs.area.Tie as tie
 
 check-requires : tie.Need-check-requires
 check-requires c κs = search needs
