@@ -2,7 +2,7 @@
 ghost use mathlib.Core.Path.{_≡_};
 ghost use mathlib.Core.Bool.{false};
 ghost use Rattle.meshcheck.specs.State.{state};
-ghost use Rattle.mesh.specs.Measures.{areaOf, signedVolumeOf};
+ghost use Rattle.meshmeasures.specs.Measures.{areaOf, signedVolumeOf};
 ghost use Rattle.mesh.specs.Edits.{appendOf, flipOf, transformOf};
 ghost use Rattle.bench.specs.Answers.{counts, Leaves, at, turnThenMove};
 use math::Vec3;

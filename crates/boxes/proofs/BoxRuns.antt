@@ -3,9 +3,7 @@ use mathlib.Core.Path.{_≡_, refl, sym, ap, _∙_}
 use mathlib.Core.Bool.{Bool, true, false, cond}
 use mathlib.Core.List.{List, [], _∷_}
 use Prim.Native.Nat.{ℕ, _≤_, _<_}
-use native.Mathlib.Omega.{arith}
 use lib.Ieee.{Float, binary64, add, sub}
-use Rattle.ieee.specs.Number.{tau}
 use Rattle.math.specs.declared.Vec3.{Vec3}
 use Rattle.math.specs.Vec.{new, vMin, vMax}
 use Rattle.weld.specs.Rep.{Held, Runs}
@@ -17,22 +15,7 @@ use Rattle.soups.specs.ParamBox.{three, paramBox}
 use Rattle.soups.specs.Coords.{cylindricalToCartesian}
 use Rattle.soups.specs.Boxes.{asIs, turnedTo, cylindricalBox, isFull, boxShape}
 use Rattle.soups.specs.Surface.{mapped}
-use Rattle.soups.proofs.ArcLaws.{arcSegments-some, arcSegments-few}
 use Rattle.soups.proofs.SurfaceGrids.{cartesian-chart, cylindrical-chart}
-
-pub arc-few : (n segments : ℕ) (span : Float) → n ≡ arcSegments segments span → segments ≤ 1024 → n ≤ 1024
-arc-few n segments span e h = omega (arith, e, arcSegments-few segments span h)
-
-pub arc-some : (n segments : ℕ) (span : Float) → n ≡ arcSegments segments span → 0 < n
-arc-some n segments span e = omega (arith, e, arcSegments-some segments span)
-
-pub turned-full : (full : Bool) (lo hi : Vec3) → full ≡ true → new (hi .x) (add binary64 (lo .y) tau) (hi .z) ≡ turnedTo full lo hi
-unfolding turnedTo
-turned-full full lo hi e = ap (λ (b : Bool). turnedTo b lo hi) (sym e)
-
-pub turned-part : (full : Bool) (lo hi : Vec3) → full ≡ false → hi ≡ turnedTo full lo hi
-unfolding turnedTo
-turned-part full lo hi e = ap (λ (b : Bool). turnedTo b lo hi) (sym e)
 
 pub cylindrical-runs : (full : Bool) (lo hi high : Vec3) (segments n : ℕ) (h r : Held) → high ≡ turnedTo full lo hi → n ≡ arcSegments segments (sub binary64 (high .y) (lo .y))
     → Runs (paramBox lo high (three 1 n 1) (three false full false) (mapped Cylindrical)) h r → Runs (cylindricalBox full lo hi segments) h r

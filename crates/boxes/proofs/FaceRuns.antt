@@ -4,8 +4,7 @@ use mathlib.Core.Bool.{Bool, true, false, cond, not, true≢false}
 use mathlib.Core.List.{List, [], _++_, append-nil, append-assoc}
 use Prim.Native.Nat.{ℕ, zero, suc, _+_, _/_, _%_, _≤_, _<_}
 use native.Mathlib.Omega.{arith}
-use borrow.Author.Tests.{eq-eqb, ne-eqb}
-use lib.Ieee.{Float, eq, ne}
+use lib.Ieee.{Float, eq}
 use Rattle.math.specs.declared.Vec3.{Vec3}
 use Rattle.math.specs.Vec.{axis}
 use Rattle.weld.specs.Rep.{Held, Ready, Runs}
@@ -24,16 +23,8 @@ use Rattle.soups.specs.Surface.{mapped, lineOf, surfaceAt}
 use Rattle.soups.proofs.SurfaceGrids.{face-surface}
 use Rattle.balance.specs.Grid.{upto}
 use Rattle.balance.specs.Buffer.{upto-more}
-use Rattle.boxes.specs.Box.{AxisTabled, BoxWithin, isHigh, hasFace, faceOf}
-
--- `three` at the middle axis and at the others
-pub three-middle : {A : Type 0} (a b c : A) (k : ℕ) → k ≡ 1 → b ≡ three a b c k
-three-middle a b c k e = ap (three a b c) (sym e)
-
-pub three-other : {A : Type 0} (a b : A) (k : ℕ) → (k ≡ 1 → ⊥) → a ≡ three a b a k
-three-other a b zero h = refl
-three-other a b (suc zero) h = absurd (h refl)
-three-other a b (suc (suc k)) h = refl
+use Rattle.boxfaces.specs.Faces.{isHigh, hasFace}
+use Rattle.boxes.specs.Box.{AxisTabled, BoxWithin, faceOf}
 
 few : (n k : ℕ) → n ≤ 1024 → three 1 n 1 k ≤ 1024
 few n zero h = omega arith
@@ -55,13 +46,6 @@ axis-tabled line (Around a d e1 e2) k val u v tab l p q w = face-tabled line (Ar
 -- the table of a line that is the middle axis
 pub line-tabled : (l m : Line) (n : ℕ) (tab : List Float) → l ≡ m → m .n ≡ n → Filled (OnLine l) n tab → Filled (OnLine m) (m .n) tab
 line-tabled l m n tab e d w = subst (λ (k : ℕ). Filled (OnLine m) k tab) (sym d) (subst (λ (x : Line). Filled (OnLine x) n tab) e w)
-
--- a choice by a Bool
-pub chosen : {A : Type 0} (b : Bool) (x y r : A) → b ≡ true → r ≡ x → r ≡ cond b x y
-chosen b x y r e d = d ∙ ap (λ (t : Bool). cond t x y) (sym e)
-
-pub other : {A : Type 0} (b : Bool) (x y r : A) → b ≡ false → r ≡ y → r ≡ cond b x y
-other b x y r e d = d ∙ ap (λ (t : Bool). cond t x y) (sym e)
 
 -- places for guesses stay as many
 pub guesses-kept : {lo hi : Vec3} {n : ℕ} {turns : Bool} {chart : Chart} {tab : List Float} {g h : ℕ} → g ≡ h → BoxWithin lo hi n turns chart tab h → BoxWithin lo hi n turns chart tab g
@@ -96,20 +80,6 @@ module _ (lo hi : Vec3) (n : ℕ) (turns : Bool) (chart : Chart) where
       ∙ ap (λ (y : Line). grid (U .n) (y .n) (not side) (surfaceAt p (Face chart k val U y))) ev
       ∙ ap (λ (y : Float). grid (U .n) (W .n) (not side) (surfaceAt p (Face chart k y U W))) e
       ∙ sym (face-surface p lo hi (three 1 n 1) (three false turns false) chart k side)) R
-
--- whether a face is there, as the code finds it
-module _ (lo hi : Vec3) (periodic : ℕ → Bool) (f : ℕ) where
-  pub has-none : true ≡ periodic (f / 2) → false ≡ hasFace lo hi periodic f
-  unfolding hasFace
-  has-none p = λ i. cond (p i) false (cond (isHigh f) (not (eq (axis hi (f / 2)) (axis lo (f / 2)))) true)
-
-  pub has-high : (x y : Float) → false ≡ periodic (f / 2) → f % 2 ≡ 1 → x ≡ axis hi (f / 2) → y ≡ axis lo (f / 2) → ne x y ≡ hasFace lo hi periodic f
-  unfolding hasFace ne
-  has-high x y p e ex ey = λ i. cond (p i) false (cond (sym (eq-eqb (f % 2) 1 e) i) (not (eq (ex i) (ey i))) true)
-
-  pub has-low : false ≡ periodic (f / 2) → (f % 2 ≡ 1 → ⊥) → true ≡ hasFace lo hi periodic f
-  unfolding hasFace
-  has-low p e = λ i. cond (p i) false (cond (sym (ne-eqb (f % 2) 1 e) i) (not (eq (axis hi (f / 2)) (axis lo (f / 2)))) true)
 
 module _ (lo hi : Vec3) (divs : ℕ → ℕ) (periodic : ℕ → Bool) (map : Vec3 → Vec3) where
   -- a face that is not there, and one that is

@@ -1,19 +1,18 @@
 -- What the code of a parameter box asks of its caller, and the six faces one by one. Definitions only.
-use mathlib.Core.Bool.{Bool, true, false, cond, not}
+use mathlib.Core.Bool.{Bool, false, cond}
 use mathlib.Core.List.{List, []}
-use Prim.Native.Nat.{ℕ, _/_, _%_, _≤_, _<_}
-use lib.Dec.{eqb}
-use lib.Ieee.{Float, eq}
+use Prim.Native.Nat.{ℕ, _/_, _≤_, _<_}
+use lib.Ieee.{Float}
 use Rattle.math.specs.declared.Vec3.{Vec3}
 use Rattle.soups.specs.declared.Line.{Line}
 use Rattle.soups.specs.declared.Chart.{Chart}
 use Rattle.soups.specs.declared.Chart.the-variants.{Cartesian, Cylindrical, Around}
-use Rattle.math.specs.Vec.{axis}
 use Rattle.soups.specs.Grid.{Soup}
 use Rattle.soups.specs.ParamBox.{three, face}
 use Rattle.soups.specs.Surface.{lineOf}
 use Rattle.surfaces.specs.declared.turns.Turns.the-variants.{OnLine}
 use Rattle.surfaces.specs.Turns.{Filled}
+use Rattle.boxfaces.specs.Faces.{isHigh, hasFace}
 
 -- the table of the middle axis, for a chart that takes it as an angle
 abbrev pub AxisTabled : Chart → Line → List Float → Type 0
@@ -27,14 +26,6 @@ pub record BoxWithin (lo hi : Vec3) (n : ℕ) (turns : Bool) (chart : Chart) (ta
   pub tabled : AxisTabled chart (lineOf lo hi (three 1 n 1) (three false turns false) 1) table
   pub one : 1 < guesses
   pub long : n < guesses
-
--- whether the number of a face is that of a high one
-abbrev pub isHigh : ℕ → Bool
-isHigh f = eqb (f % 2) 1
-
--- face f of six is there: 2 k is the low one of the axis k, 2 k + 1 the high one
-unfoldable pub hasFace : Vec3 → Vec3 → (ℕ → Bool) → ℕ → Bool
-hasFace lo hi periodic f = cond (periodic (f / 2)) false (cond (isHigh f) (not (eq (axis hi (f / 2)) (axis lo (f / 2)))) true)
 
 -- the triangles of face f
 unfoldable pub faceOf : Vec3 → Vec3 → (ℕ → ℕ) → (ℕ → Bool) → (Vec3 → Vec3) → ℕ → Soup

@@ -1,3 +1,2 @@
 -- What the contracts of `boxes` cite.
 pub mod Box
-pub mod Flat

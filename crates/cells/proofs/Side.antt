@@ -16,7 +16,8 @@ use Rattle.welding.proofs.Triangle.{linked-moved}
 use Rattle.quads.specs.declared.Quad.{Quad}
 use Rattle.quads.specs.Quads.{Known, Numbered}
 use Rattle.quads.proofs.Quads.{quad-numbered, first-moved, both-runs}
-use Rattle.cells.specs.Cell.{turned, exchanged, SideRuns, TurnedSideRuns}
+use Rattle.balance.specs.Grid.{turned}
+use Rattle.cells.specs.Cell.{exchanged, SideRuns, TurnedSideRuns}
 use Rattle.cells.proofs.Turned.{cell-flipped, cell-straight}
 
 module _ (w : Welder) (vs : List Float) (ts ws : List ℕ) (R : Ready (held w vs ts ws)) where

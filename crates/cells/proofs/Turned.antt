@@ -6,7 +6,7 @@ use Prim.Native.Nat.{ℕ, _<_, _^_}
 use lib.Ieee.{Float}
 use Rattle.math.specs.declared.Vec3.{Vec3}
 use Rattle.balance.specs.Soup.{Tri}
-use Rattle.balance.specs.Grid.{quad}
+use Rattle.balance.specs.Grid.{quad, turned}
 use Rattle.chain.proofs.Chains.{not-both}
 use Rattle.welding.specs.declared.Welded.{Welded}
 use Rattle.weld.specs.declared.Welder.{Welder}
@@ -14,7 +14,7 @@ use Rattle.weld.specs.Rep.{Held, Linked}
 use Rattle.quads.specs.declared.Quad.{Quad}
 use Rattle.quads.specs.Quads.{Known, Numbered, quadWith, LastRuns}
 use Rattle.quads.proofs.Quads.{known-small}
-use Rattle.cells.specs.Cell.{turned, exchanged}
+use Rattle.cells.specs.Cell.{exchanged}
 
 module _ (a b c d : Vec3) (h : Held) (q : Quad) (vs : List Float) (ts ws : List ℕ) where
   exchange : (soup : List (Tri Vec3)) → Numbered soup a d c b h q vs ts ws → Numbered soup a b c d h (exchanged q) vs ts ws

@@ -1,19 +1,11 @@
--- One cell of `Soup::grid` of src/tessellate.rs by its four points, and a cell of which two are known. Definitions only.
-use mathlib.Core.Bool.{Bool, true, false}
+-- A cell of `Soup::grid` of src/tessellate.rs of which two points are known. Definitions only.
 use mathlib.Core.List.{List}
 use Prim.Native.Nat.{ℕ}
 use lib.Ieee.{Float}
 use Rattle.math.specs.declared.Vec3.{Vec3}
-use Rattle.balance.specs.Soup.{Tri}
-use Rattle.balance.specs.Grid.{quad}
 use Rattle.weld.specs.Rep.{Held}
 use Rattle.quads.specs.declared.Quad.{Quad}
 use Rattle.quads.specs.Quads.{Given, CornersRun}
-
--- `quad(a, d, c, b)` where flip says so, else `quad(a, b, c, d)`
-abbrev pub turned : {P : Type 0} → Bool → P → P → P → P → List (Tri P)
-turned true a b c d = quad a d c b
-turned false a b c d = quad a b c d
 
 -- a quad with its second and fourth number exchanged
 abbrev pub exchanged : Quad → Quad

@@ -2,10 +2,11 @@
 ghost use mathlib.Core.Path.{_≡_};
 ghost use mathlib.Core.Bool.{true};
 ghost use Prim.Native.Nat.{_<_, _^_};
+ghost use Rattle.balance.specs.Grid.{turned};
 ghost use Rattle.stored.specs.Points.{Clean};
 ghost use Rattle.weld.specs.Rep.{held, Ready};
 ghost use Rattle.quads.specs.Quads.{Known, Numbered};
-ghost use Rattle.cells.specs.Cell.{turned, SideRuns, TurnedSideRuns};
+ghost use Rattle.cells.specs.Cell.{SideRuns, TurnedSideRuns};
 use math::Vec3;
 use quads::Quad;
 use weld::Welder;

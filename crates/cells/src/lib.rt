@@ -4,7 +4,7 @@ ghost use mathlib.Core.Path.{_≡_};
 ghost use mathlib.Core.Bool.{true, cond};
 ghost use Rattle.weld.specs.Rep.{held, Ready};
 ghost use Rattle.quads.specs.Quads.{Known, Numbered};
-ghost use Rattle.cells.specs.Cell.{turned};
+ghost use Rattle.balance.specs.Grid.{turned};
 
 mod column;
 

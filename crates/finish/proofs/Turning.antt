@@ -17,7 +17,7 @@ use Rattle.shape.specs.declared.Shape.the-variants.{Box, MultiBox, Sphere, Sphe
 use Rattle.meshcheck.specs.State.{State, state, meshOf, stored, Sound}
 use Rattle.triples.specs.Triples.{eachTo, cornersOf}
 use Rattle.meshcheck.proofs.Stored.{stored-flip}
-use Rattle.mesh.proofs.Readings.{sum-is}
+use Rattle.meshmeasures.proofs.Readings.{sum-is}
 use Rattle.measure.proofs.Terms.{volume-is}
 use Rattle.outcome.specs.Solid.{outward, solidMesh}
 use Rattle.finish.specs.Ends.{isRotPoly, turned}

@@ -8,7 +8,7 @@ use Rattle.balance.specs.Buffer.{upto-more}
 use Rattle.weld.specs.Rep.{Held, Ready, Runs}
 use Rattle.weld.specs.Runs.{runs-none, runs-then, runs-as}
 use Rattle.soups.specs.Grid.{Soup, cell, row, grid}
-use Rattle.cells.specs.Cell.{turned}
+use Rattle.balance.specs.Grid.{turned}
 
 cell-turned : (flip : Bool) (f : ℕ → ℕ → Vec3) (i j : ℕ) → turned flip (f i j) (f (i + 1) j) (f (i + 1) (j + 1)) (f i (j + 1)) ≡ cell flip f i j
 cell-turned true f i j = refl

@@ -14,17 +14,12 @@ use Rattle.trimesh.specs.Mesh.{append}
 use Rattle.refusal.specs.declared.Refusal.{Refusal}
 use Rattle.refusal.specs.declared.Refusal.the-variants.{Accepted, NotFinite, AngleTooLarge, BadList, PointNotFinite, NoRoom, BadMesh}
 use Rattle.slices.specs.Every.{wholePlaces, every}
-use Rattle.meshcheck.specs.State.{State, meshOf, badMesh, notFinite, checkOf, isAccepted, Sound}
+use Rattle.meshcheck.specs.State.{State, meshOf, badMesh, notFinite, isAccepted, Sound}
 use Rattle.affine.specs.Affine.{FiniteVertices}
 use Rattle.appendcheck.specs.Append.{noRoom, appendRefusal}
 use Rattle.movecheck.specs.Transform.{transformed, transformRefusal}
-use Rattle.meshcheck.proofs.Sound.{sound, finite-vertices, places-three, places-limit, neither}
+use Rattle.meshcheck.proofs.Sound.{not-bad, sound, finite-vertices, places-three, places-limit, neither}
 use Rattle.meshcheck.proofs.Stored.{appended-vertices, appended-triangles}
-
--- the first test of a call did not refuse
-first : (a : Bool) (q : Refusal) → isAccepted (cond a BadMesh q) ≡ true → a ≡ false
-first true q e = absurd (false≢true e)
-first false q e = refl
 
 last : (a b c : Bool) → isAccepted (cond a BadMesh (cond b NotFinite (cond c NoRoom Accepted))) ≡ true → c ≡ false
 last true b c e = absurd (false≢true e)
@@ -39,10 +34,6 @@ third false false true q e = absurd (false≢true e)
 third false false false q e = refl
 
 module _ (s : State) where
-  pub check-sound : (r : Refusal) → r ≡ checkOf s → isAccepted r ≡ true → Sound s
-  unfolding checkOf
-  check-sound r e h = sound s (first (badMesh s) (cond (notFinite s) NotFinite Accepted) (sym (ap {B = Bool} isAccepted e) ∙ h))
-
   -- what a transform tests after 8, 4 and 1
   abbrev after : List TransformOp → ℕ → Bool → Refusal
   after ops count degrees =
@@ -57,7 +48,7 @@ module _ (s : State) where
     transform-good : badMesh s ≡ false
     unfolding transformRefusal
     transform-good =
-        first (badMesh s) (cond (not (opCountWithin count)) BadList (cond (notFinite s || bad-op) NotFinite (after ops count degrees))) (sym (ap {B = Bool} isAccepted e) ∙ h)
+        not-bad (badMesh s) (cond (not (opCountWithin count)) BadList (cond (notFinite s || bad-op) NotFinite (after ops count degrees))) (sym (ap {B = Bool} isAccepted e) ∙ h)
 
     pub transform-sound : Sound s
     transform-sound = sound s transform-good
@@ -81,7 +72,7 @@ pub record Appends (s o : State) : Type 0 where
 module _ (s o : State) (r : Refusal) (e : r ≡ appendRefusal s o) (h : isAccepted r ≡ true) where
   good : (badMesh s || badMesh o) ≡ false
   unfolding appendRefusal
-  good = first (badMesh s || badMesh o) (cond (notFinite s || notFinite o) NotFinite (cond (noRoom (append (meshOf s) (meshOf o)) s) NoRoom Accepted)) (sym (ap {B = Bool} isAccepted e) ∙ h)
+  good = not-bad (badMesh s || badMesh o) (cond (notFinite s || notFinite o) NotFinite (cond (noRoom (append (meshOf s) (meshOf o)) s) NoRoom Accepted)) (sym (ap {B = Bool} isAccepted e) ∙ h)
 
   roomy : noRoom (append (meshOf s) (meshOf o)) s ≡ false
   unfolding appendRefusal

@@ -1,4 +1,3 @@
 -- Laws that several proofs of this crate use.
 pub mod Given
 pub mod Accepted
-pub mod Readings

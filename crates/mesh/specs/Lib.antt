@@ -1,5 +1,4 @@
 -- The definitions that the contracts of `mesh` cite, and the theorem about lists of calls.
 pub mod Outcome
 pub mod Edits
-pub mod Measures
 pub mod Lists

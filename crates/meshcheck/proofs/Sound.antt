@@ -1,6 +1,6 @@
 -- What check 8 shows of a state. Assumes nothing.
 use mathlib.Core.Path.{_≡_, refl, sym, ap, _∙_}
-use mathlib.Core.Bool.{Bool, true, false, not, _||_, true≢false}
+use mathlib.Core.Bool.{Bool, true, false, not, _||_, cond, true≢false, false≢true}
 use mathlib.Core.List.{List}
 use Prim.Native.Nat.{ℕ, _+_, _*_, _/_, _≤_, _<_}
 use native.Mathlib.Omega.{arith}
@@ -8,8 +8,10 @@ use lib.ListN.{length, take, getD}
 use lib.Dec.{ltb}
 use lib.Ieee.Scale.{finite}
 use borrow.Author.Tests.{ltb-true, ltb-false, lt-ltb, le-ltb, not-false}
+use Rattle.refusal.specs.declared.Refusal.{Refusal}
+use Rattle.refusal.specs.declared.Refusal.the-variants.{Accepted, NotFinite, BadMesh}
 use Rattle.slices.specs.Every.{wholePlaces, every}
-use Rattle.meshcheck.specs.State.{State, badMesh, notFinite, Sound}
+use Rattle.meshcheck.specs.State.{State, badMesh, notFinite, checkOf, isAccepted, Sound}
 use Rattle.bounded.specs.Bounded.{within}
 use Rattle.affine.specs.Affine.{FiniteVertices, Tested}
 use Rattle.slices.proofs.Next.{every-at}
@@ -58,6 +60,16 @@ module _ (s : State) (good : badMesh s ≡ false) where
 
   pub tested : notFinite s ≡ false → (small : Bool) → small ≡ every within (take (3 * s .mesh .vertices) (s .vertices)) → Tested (s .vertices) (s .mesh .vertices) small
   tested h small e = record { vertices = finite-vertices h; bounded = λ t. sym e ∙ t }
+
+-- ---- a call that was accepted
+-- its first test did not refuse
+pub not-bad : (a : Bool) (q : Refusal) → isAccepted (cond a BadMesh q) ≡ true → a ≡ false
+not-bad true q e = absurd (false≢true e)
+not-bad false q e = refl
+
+pub check-sound : (s : State) (r : Refusal) → r ≡ checkOf s → isAccepted r ≡ true → Sound s
+unfolding checkOf
+check-sound s r e h = sound s (not-bad (badMesh s) (cond (notFinite s) NotFinite Accepted) (sym (ap {B = Bool} isAccepted e) ∙ h))
 
 -- ---- the tests in their order
 or-true : (b : Bool) → (b || true) ≡ true

@@ -207,7 +207,7 @@ fn weld_tube(
     let chart = Chart::Around { a, d, e1, e2 };
     let mut table = [0.0; 2050];
     let mut numbers = [0usize; 1025];
-    let l = boxes::line_of(lo, hi, np, true, 1);
+    let l = boxfaces::line_of(lo, hi, np, true, 1);
     surfaces::fill_turns(Turns::OnLine { l }, np, &mut table);
     boxes::weld_param_box(
         vertices,

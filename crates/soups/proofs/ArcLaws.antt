@@ -1,7 +1,7 @@
 -- `arcSegments` is from 1 to 1024 where the segments are at most 1024; document 01's figures for 32 segments.
 use mathlib.Core.Path.{_≡_, refl}
 use mathlib.Core.Bool.{Bool, true, false, cond, not}
-use Prim.Native.Nat.{ℕ, _≤_, max}
+use Prim.Native.Nat.{ℕ, _≤_, _<_, max}
 use native.Mathlib.Omega.{arith}
 use lib.Dec.{T}
 use lib.Ieee.{Float, nan, mul, div, neg, ofInt, ofBits, isNan, lt, le}
@@ -29,6 +29,13 @@ share-within segments span h = go (isNan span) (λ t. t)
 pub arcSegments-few : (segments : ℕ) (span : Float) → segments ≤ 1024 → arcSegments segments span ≤ 1024
 unfolding arcSegments
 arcSegments-few segments span h = omega (arith, ceiling-le (arcShare segments span) (share-within segments span h))
+
+-- of a number that is known to be arcSegments
+pub arc-few : (n segments : ℕ) (span : Float) → n ≡ arcSegments segments span → segments ≤ 1024 → n ≤ 1024
+arc-few n segments span e h = omega (arith, e, arcSegments-few segments span h)
+
+pub arc-some : (n segments : ℕ) (span : Float) → n ≡ arcSegments segments span → 0 < n
+arc-some n segments span e = omega (arith, e, arcSegments-some segments span)
 
 -- 32 segments: span 0 gives 1, PI and −PI 16, TAU 32
 pub arc-zero : arcSegments 32 plusZero ≡ 1

@@ -152,7 +152,7 @@ fn weld_rotated_from(
         return w;
     }
     let span = stop - start;
-    let full = boxes::is_full(ieee::abs(span));
+    let full = boxfaces::is_full(ieee::abs(span));
     let n = points::arc_segments(segments, turn_span(full, span));
     let s = Surface::Rotated {
         a,

@@ -6,14 +6,14 @@ ghost use lib.ListN.{length, getD};
 ghost use Rattle.weld.specs.Rep.{Begun, Parted};
 
 mod foresight;
-mod points;
+mod point;
 mod states;
 
 pub use foresight::foresee;
 pub use foresight::unknown;
 use math::Vec3;
-pub use points::is_finite;
-pub use points::plus_zero;
+pub use point::is_finite;
+pub use point::plus_zero;
 pub use states::full;
 pub use states::grown;
 pub use states::settled;

@@ -1,7 +1,7 @@
 -- `bench::meshes::bench_area` meets its contract, by that of `mesh::area`. Assumes nothing.
 use mathlib.Core.Path.{ap}
 use borrow.Author.Needs.{needs}
-use Rattle.mesh.specs.declared.Measured.{Measured}
+use Rattle.meshmeasures.specs.declared.Measured.{Measured}
 use Rattle.bench.proofs.meshes.bench_area.Statement.{statement}
 use Rattle.bench.proofs.meshes.bench_area.Tie as tie
 

@@ -1,7 +1,7 @@
 -- `bench::meshes::bench_signed_volume` meets its contract, by that of `mesh::signed_volume`. Assumes nothing.
 use mathlib.Core.Path.{ap}
 use borrow.Author.Needs.{needs}
-use Rattle.mesh.specs.declared.Measured.{Measured}
+use Rattle.meshmeasures.specs.declared.Measured.{Measured}
 use Rattle.bench.proofs.meshes.bench_signed_volume.Statement.{statement}
 use Rattle.bench.proofs.meshes.bench_signed_volume.Tie as tie
 

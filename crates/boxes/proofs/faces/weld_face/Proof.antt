@@ -4,7 +4,7 @@ use native.Mathlib.Omega.{arith}
 use Prim.Native.Nat.{_/_}
 use denote.Ref.{now}
 use lib.ListN.{length}
-use Rattle.boxes.specs.Box.{isHigh}
+use Rattle.boxfaces.specs.Faces.{isHigh}
 use borrow.Author.Needs.{needs}
 use Rattle.boxes.proofs.faces.weld_face.Statement.{statement}
 use Rattle.boxes.proofs.faces.weld_face.Tie as tie

@@ -1,7 +1,7 @@
 -- `finish::turn::turn_outward` meets its contract. Assumes nothing.
 use denote.Ref.{now}
 use Rattle.meshcheck.specs.State.{state}
-use Rattle.mesh.proofs.Readings.{all-within}
+use Rattle.meshmeasures.proofs.Readings.{all-within}
 use Rattle.finish.proofs.Turning.{outward-turned, outward-kept}
 use borrow.Author.Needs.{needs}
 use Rattle.finish.proofs.turn.turn_outward.Statement.{statement}

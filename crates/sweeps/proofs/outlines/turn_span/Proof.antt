@@ -1,6 +1,6 @@
 -- `sweeps::outlines::turn_span` meets its contract. Assumes nothing.
 use mathlib.Core.Bool.{cond}
-use Rattle.boxes.proofs.FaceRuns.{chosen, other}
+use Rattle.boxfaces.proofs.Choices.{chosen, other}
 use mathlib.Core.Path.{refl}
 use Rattle.sweeps.specs.Caps.{turnSpan}
 use Rattle.sweeps.proofs.outlines.turn_span.Statement.{statement}

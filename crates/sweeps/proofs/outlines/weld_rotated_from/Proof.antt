@@ -5,7 +5,7 @@ use mathlib.Core.Path.{ap, _∙_}
 use Rattle.soups.specs.Arc.{arcSegments}
 use Rattle.soups.specs.Boxes.{isFull}
 use Rattle.surfaces.proofs.Tables.{filled-less}
-use Rattle.boxes.proofs.BoxRuns.{arc-few, arc-some}
+use Rattle.soups.proofs.ArcLaws.{arc-few, arc-some}
 use Rattle.sweeps.proofs.OutlineRuns.{rotated-within, rotated-none, rotated-runs}
 use Rattle.sweeps.proofs.outlines.weld_rotated_from.Statement.{statement}
 use Rattle.sweeps.proofs.outlines.weld_rotated_from.Tie as tie

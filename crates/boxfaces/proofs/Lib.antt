@@ -1,0 +1,3 @@
+-- Laws that the proofs of `boxfaces` use, and some of `sweeps`.
+pub mod Choices
+pub mod OneQuad

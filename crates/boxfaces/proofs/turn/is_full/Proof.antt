@@ -1,0 +1,12 @@
+-- `boxfaces::turn::is_full` meets its contract. Assumes nothing.
+use mathlib.Core.Path.{refl}
+use Rattle.soups.specs.Boxes.{isFull, fullSpan}
+use Rattle.boxfaces.proofs.turn.is_full.Statement.{statement}
+use Rattle.boxfaces.proofs.turn.is_full.Tie as tie
+
+returns : tie.Need-returns
+unfolding isFull fullSpan
+returns c = refl
+
+pub is-full-spec : {M : Type 1} → statement M
+is-full-spec = tie.close (tie.spec returns)

@@ -1,0 +1,4 @@
+-- What the contracts of `boxfaces` cite.
+pub mod Faces
+pub mod Flat
+pub mod Guesses

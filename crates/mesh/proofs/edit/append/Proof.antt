@@ -1,0 +1,180 @@
+-- `mesh::edit::append` meets its contract: the refusal, or two copies. Assumes nothing.
+use denote.Ref.{now}
+use mathlib.Core.Path.{_≡_, sym, _∙_}
+use mathlib.Core.Bool.{true, false}
+use mathlib.Core.List.{map}
+use Prim.Native.Nat.{ℕ, _+_, _*_}
+use lib.Seq.{paste}
+use borrow.Author.Tests.{not-true, not-false}
+use Rattle.trimesh.specs.Mesh.{append}
+use Rattle.meshcheck.specs.declared.TriMesh.{TriMesh}
+use Rattle.meshcheck.specs.State.{state, meshOf, stored, isAccepted}
+use Rattle.appendcheck.specs.Append.{appendRefusal}
+use Rattle.mesh.specs.Edits.{appendOf}
+use Rattle.meshcheck.proofs.Stored.{stored-append}
+use Rattle.mesh.proofs.Given.{gives-kept, gives-done}
+use Rattle.mesh.proofs.Accepted.{appends}
+use borrow.Author.Needs.{needs}
+use native.Mathlib.Omega.{arith}
+use Rattle.mesh.proofs.edit.append.Statement.{statement}
+use Rattle.mesh.proofs.edit.append.Tie as tie
+
+append-refusal-requires : tie.Need-append-refusal-requires
+append-refusal-requires c κs = search needs
+
+accepted-requires : tie.Need-accepted-requires
+accepted-requires c κs = search needs
+
+same-length : tie.Need-same-length
+same-length c = search needs
+
+same-length-2 : tie.Need-same-length-2
+same-length-2 c = search needs
+
+returns : tie.Need-returns
+unfolding appendOf
+returns c =
+    let a = c .before .before .before .before .before .before .before .before .before .args in
+    let s = state (a .mesh) (now (a .vertices)) (now (a .triangles)) in
+    let o = state (a .other) (now (a .other-vertices)) (now (a .other-triangles)) in
+    let r = c .before .before .append-refusal in
+    let h : isAccepted (r .result) ≡ false = sym (c .before .accepted .ensures) ∙ not-true _ (c .if1 .taken) in
+    gives-kept (appendRefusal s o) s (stored (append (meshOf s) (meshOf o)) s) (r .result) (r .ensures) h
+
+mul-copy : tie.Need-mul-copy
+mul-copy c =
+    let a = c .before .before .before .before .before .before .before .before .before .before .args in
+    let s = state (a .mesh) (now (a .vertices)) (now (a .triangles)) in
+    let o = state (a .other) (now (a .other-vertices)) (now (a .other-triangles)) in
+    let r = c .before .before .before .append-refusal in
+    let h : isAccepted (r .result) ≡ true = sym (c .before .before .accepted .ensures) ∙ not-false _ (c .before .if1 .left) in
+    let w = appends s o (r .result) (r .ensures) h in
+    omega (arith, w .limit, w .limitT)
+
+mul-copy-2 : tie.Need-mul-copy-2
+mul-copy-2 c =
+    let a = c .before .before .before .before .before .before .before .before .before .before .args in
+    let s = state (a .mesh) (now (a .vertices)) (now (a .triangles)) in
+    let o = state (a .other) (now (a .other-vertices)) (now (a .other-triangles)) in
+    let r = c .before .before .before .append-refusal in
+    let h : isAccepted (r .result) ≡ true = sym (c .before .before .accepted .ensures) ∙ not-false _ (c .before .if1 .left) in
+    let w = appends s o (r .result) (r .ensures) h in
+    omega (arith, w .limit, w .limitT)
+
+copy-requires : tie.Need-copy-requires
+copy-requires c κs =
+    let a = c .before .before .before .before .before .before .before .before .before .before .args in
+    let s = state (a .mesh) (now (a .vertices)) (now (a .triangles)) in
+    let o = state (a .other) (now (a .other-vertices)) (now (a .other-triangles)) in
+    let r = c .before .before .before .append-refusal in
+    let h : isAccepted (r .result) ≡ true = sym (c .before .before .accepted .ensures) ∙ not-false _ (c .before .if1 .left) in
+    let w = appends s o (r .result) (r .ensures) h in
+    omega (arith, w .vertices, w .fine .vertices)
+
+mul-copy-up : tie.Need-mul-copy-up
+mul-copy-up c =
+    let a = c .before .before .before .before .before .before .before .before .before .before .before .before .before .before .args in
+    let s = state (a .mesh) (now (a .vertices)) (now (a .triangles)) in
+    let o = state (a .other) (now (a .other-vertices)) (now (a .other-triangles)) in
+    let r = c .before .before .before .before .before .before .before .append-refusal in
+    let h : isAccepted (r .result) ≡ true = sym (c .before .before .before .before .before .before .accepted .ensures) ∙ not-false _ (c .before .before .before .before .before .if1 .left) in
+    let w = appends s o (r .result) (r .ensures) h in
+    omega (arith, w .limit, w .limitT)
+
+mul-copy-up-2 : tie.Need-mul-copy-up-2
+mul-copy-up-2 c =
+    let a = c .before .before .before .before .before .before .before .before .before .before .before .before .before .before .args in
+    let s = state (a .mesh) (now (a .vertices)) (now (a .triangles)) in
+    let o = state (a .other) (now (a .other-vertices)) (now (a .other-triangles)) in
+    let r = c .before .before .before .before .before .before .before .append-refusal in
+    let h : isAccepted (r .result) ≡ true = sym (c .before .before .before .before .before .before .accepted .ensures) ∙ not-false _ (c .before .before .before .before .before .if1 .left) in
+    let w = appends s o (r .result) (r .ensures) h in
+    omega (arith, w .limit, w .limitT)
+
+cast-copy-up : tie.Need-cast-copy-up
+cast-copy-up c =
+    let a = c .before .before .before .before .before .before .before .before .before .before .before .before .before .before .args in
+    let s = state (a .mesh) (now (a .vertices)) (now (a .triangles)) in
+    let o = state (a .other) (now (a .other-vertices)) (now (a .other-triangles)) in
+    let r = c .before .before .before .before .before .before .before .append-refusal in
+    let h : isAccepted (r .result) ≡ true = sym (c .before .before .before .before .before .before .accepted .ensures) ∙ not-false _ (c .before .before .before .before .before .if1 .left) in
+    let w = appends s o (r .result) (r .ensures) h in
+    omega (arith, w .limit, w .limitT)
+
+copy-up-requires : tie.Need-copy-up-requires
+copy-up-requires c κs =
+    let a = c .before .before .before .before .before .before .before .before .before .before .before .before .before .before .args in
+    let s = state (a .mesh) (now (a .vertices)) (now (a .triangles)) in
+    let o = state (a .other) (now (a .other-vertices)) (now (a .other-triangles)) in
+    let r = c .before .before .before .before .before .before .before .append-refusal in
+    let h : isAccepted (r .result) ≡ true = sym (c .before .before .before .before .before .before .accepted .ensures) ∙ not-false _ (c .before .before .before .before .before .if1 .left) in
+    let w = appends s o (r .result) (r .ensures) h in
+    (omega (arith, w .triangles), omega (arith, w .fine .triangles), w .fits)
+
+add-t22 : tie.Need-add-t22
+add-t22 c =
+    let a = c .before .before .before .before .before .before .before .before .before .before .before .before .before .before .before .before .before .args in
+    let s = state (a .mesh) (now (a .vertices)) (now (a .triangles)) in
+    let o = state (a .other) (now (a .other-vertices)) (now (a .other-triangles)) in
+    let r = c .before .before .before .before .before .before .before .before .before .before .append-refusal in
+    let h : isAccepted (r .result) ≡ true = sym (c .before .before .before .before .before .before .before .before .before .accepted .ensures)
+    ∙ not-false _ (c .before .before .before .before .before .before .before .before .if1 .left) in
+    let w = appends s o (r .result) (r .ensures) h in
+    omega (arith, w .limit, w .limitT)
+
+add-t21 : tie.Need-add-t21
+add-t21 c =
+    let a = c .before .before .before .before .before .before .before .before .before .before .before .before .before .before .before .before .before .args in
+    let s = state (a .mesh) (now (a .vertices)) (now (a .triangles)) in
+    let o = state (a .other) (now (a .other-vertices)) (now (a .other-triangles)) in
+    let r = c .before .before .before .before .before .before .before .before .before .before .append-refusal in
+    let h : isAccepted (r .result) ≡ true = sym (c .before .before .before .before .before .before .before .before .before .accepted .ensures)
+    ∙ not-false _ (c .before .before .before .before .before .before .before .before .if1 .left) in
+    let w = appends s o (r .result) (r .ensures) h in
+    omega (arith, w .limit, w .limitT)
+
+same-length-3 : tie.Need-same-length-3
+same-length-3 c = search needs
+
+same-length-4 : tie.Need-same-length-4
+same-length-4 c = search needs
+
+returns-2 : tie.Need-returns-2
+unfolding appendOf
+returns-2 c =
+    let a = c .before .before .before .before .before .before .before .before .before .before .before .before .before .before .before .before .before .args in
+    let s = state (a .mesh) (now (a .vertices)) (now (a .triangles)) in
+    let o = state (a .other) (now (a .other-vertices)) (now (a .other-triangles)) in
+    let r = c .before .before .before .before .before .before .before .before .before .before .append-refusal in
+    let h : isAccepted (r .result) ≡ true = sym (c .before .before .before .before .before .before .before .before .before .accepted .ensures)
+    ∙ not-false _ (c .before .before .before .before .before .before .before .before .if1 .left) in
+    let w = appends s o (r .result) (r .ensures) h in
+    let vs = paste (s .vertices) (3 * s .mesh .vertices) (o .vertices) (3 * o .mesh .vertices) in
+    let ts = paste (s .triangles) (3 * s .mesh .triangles) (map (λ (i : ℕ). i + s .mesh .vertices) (o .triangles)) (3 * o .mesh .triangles) in
+    let m : TriMesh = record { vertices = s .mesh .vertices + o .mesh .vertices; triangles = s .mesh .triangles + o .mesh .triangles } in
+    let v = c .before .before .before .before .before .before .copy in
+    let t = c .before .before .copy-up in
+    gives-done (appendRefusal s o) s (stored (append (meshOf s) (meshOf o)) s) (r .result) (r .ensures) (state m vs ts) (v .last .0) (t .last .0) h
+    (stored-append s o (w .ok) (w .fine)) (v .ensures) (t .ensures)
+
+pub append-spec : {M : Type 1} → statement M
+append-spec =
+    tie.close
+    (tie.spec
+    append-refusal-requires
+    accepted-requires
+    same-length
+    same-length-2
+    returns
+    mul-copy
+    mul-copy-2
+    copy-requires
+    mul-copy-up
+    mul-copy-up-2
+    cast-copy-up
+    copy-up-requires
+    add-t22
+    add-t21
+    same-length-3
+    same-length-4
+    returns-2)

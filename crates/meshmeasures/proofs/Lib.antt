@@ -1,0 +1,2 @@
+-- Laws that several proofs of this crate use, and one of `finish`.
+pub mod Readings

@@ -1,0 +1,2 @@
+-- The definitions that the contracts of `meshmeasures` cite.
+pub mod Measures
