@@ -53,7 +53,7 @@ weld-last-requires c κs =
     let s = c .before .before .before .before .before .before .before .before .before .before .before in
     let f = not-false _ (c .before .before .before .before .before .before .before .if1 .left) in
     let r = c .before .before .before .before .before .before .if2 .taken in
-    let k = c .before .before .before .before .are-at .ensures (c .before .before .before .if3 .taken) in
+    let k = c .before .before .before .before .are-at .ensures .1 (c .before .before .before .if3 .taken) in
     let small = known-small (s .args .w) (now (s .args .vertices)) (now (s .args .work)) in (
       s .pre,
       (
@@ -77,7 +77,7 @@ same-length-3 c = search needs
 returns-2 : tie.Need-returns-2
 returns-2 c =
     let s = c .before .before .before .before .before .before .before .before .before .before .before .before .before .before .before .before .before .before .before in
-    let k = c .before .before .before .before .before .before .before .before .before .before .before .before .are-at .ensures (c .before .before .before .before .before .before .before .before .before .before .before .if3 .taken) in
+    let k = c .before .before .before .before .before .before .before .before .before .before .before .before .are-at .ensures .1 (c .before .before .before .before .before .before .before .before .before .before .before .if3 .taken) in
     c .before .before .before .before .before .before .before .weld-last .ensures (s .args .a) (s .args .b) (s .args .d) (k .0) (k .1) (k .2)
 
 are-finite-requires : tie.Need-are-finite-requires
