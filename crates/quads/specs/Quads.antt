@@ -8,7 +8,8 @@ use lib.Ieee.{Float}
 use Rattle.math.specs.declared.Vec3.{Vec3}
 use Rattle.balance.specs.Soup.{Tri}
 use Rattle.balance.specs.Grid.{quad}
-use Rattle.trimesh.specs.Mesh.{Mesh, finiteV, plusZeroV}
+use Rattle.math.specs.Vec.{vFinite}
+use Rattle.trimesh.specs.Mesh.{Mesh, plusZeroV}
 use Rattle.stored.specs.Points.{isAt}
 use Rattle.chain.specs.Hash.{FirstAt}
 use Rattle.weld.specs.declared.Welder.{Welder}
@@ -27,7 +28,7 @@ Given w vs p m = w .room ≡ true → FirstAt vs (w .base) (w .count) p m
 
 -- where the welder goes on, p is finite, and m is the vertex of p: the first of this part that equals p after `+ 0.0`
 pub record Known (w : Welder) (vs : List Float) (p : Vec3) (m : ℕ) : Type 0 where
-  pub finite : w .finite ≡ true → w .room ≡ true → finiteV p ≡ true
+  pub finite : w .finite ≡ true → w .room ≡ true → vFinite p ≡ true
   pub first : w .finite ≡ true → Given w vs (plusZeroV p) m
 
 -- a soup of the points a, b, c and d was welded, and the numbers of q are theirs

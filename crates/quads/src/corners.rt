@@ -61,7 +61,7 @@ pub fn weld_last(
         (held w (now (vertices .entry)) (now (triangles .entry)) (now (work .entry)))
         r (now (vertices .exit)) (now (triangles .exit)) (now (work .exit)) ⌝ }
 {
-    if !weld::is_finite(c) {
+    if !math::is_finite(c) {
         return Welded {
             number: 0,
             st: weld::stopped(w),

@@ -12,7 +12,6 @@ mod states;
 pub use foresight::foresee;
 pub use foresight::unknown;
 use math::Vec3;
-pub use points::is_finite;
 pub use points::plus_zero;
 pub use states::full;
 pub use states::grown;
