@@ -13,7 +13,8 @@ use Rattle.balance.specs.Soup.{Tri}
 use Rattle.balance.specs.Grid.{quad}
 use Rattle.math.specs.Vec.{vFinite}
 use Rattle.trimesh.specs.Mesh.{Mesh, samePoint, plusZeroV, weldTriangle, weldSoup, everyFinite}
-use Rattle.stored.specs.Points.{Clean, vertexAt}
+use Rattle.trimesh.specs.Slices.{vertexAt}
+use Rattle.stored.specs.Points.{Clean}
 use Rattle.stored.proofs.Clean.{clean-self, equal-clean}
 use Rattle.chain.specs.Hash.{Stored, FirstAt}
 use Rattle.chain.proofs.Chains.{not-both, first-at}

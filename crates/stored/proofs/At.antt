@@ -8,7 +8,8 @@ use lib.Dec.{ltb}
 use lib.Ieee.{Float}
 use Rattle.math.specs.declared.Vec3.{Vec3}
 use Rattle.trimesh.specs.Mesh.{samePoint}
-use Rattle.stored.specs.Points.{vertexAt, isAt}
+use Rattle.trimesh.specs.Slices.{vertexAt}
+use Rattle.stored.specs.Points.{isAt}
 
 -- a conjunction of three, of which the first is denied
 none-of : (a b c : Bool) → a ≡ true → (not a && b && c) ≡ false

@@ -10,6 +10,7 @@ use lib.Ieee.Scale.{finite}
 use Rattle.ieee.specs.Same.{canon}
 use Rattle.math.specs.declared.Vec3.{Vec3}
 use Rattle.trimesh.specs.Mesh.{samePoint}
+use Rattle.trimesh.specs.Slices.{vertexAt}
 
 -- a 64-bit float that is finite and no −0.0, as `c + 0.0` in from_soup leaves a finite c
 pub record CleanFloat (x : Float) : Type 0 where
@@ -22,10 +23,6 @@ pub record Clean (p : Vec3) : Type 0 where
   pub cx : CleanFloat (p .x)
   pub cy : CleanFloat (p .y)
   pub cz : CleanFloat (p .z)
-
--- vertex m of a slice
-abbrev pub vertexAt : List Float → ℕ → Vec3
-vertexAt vs m = record { x = getD vs (3 * m) nan; y = getD vs (3 * m + 1) nan; z = getD vs (3 * m + 2) nan }
 
 -- a slice with p as vertex m
 abbrev pub placed : List Float → ℕ → Vec3 → List Float

@@ -3,7 +3,8 @@ ghost use mathlib.Core.Path.{_≡_};
 ghost use Prim.Native.Nat.{_+_, _*_, _≤_};
 ghost use lib.ListN.{length};
 ghost use Rattle.trimesh.specs.Mesh.{samePoint};
-ghost use Rattle.stored.specs.Points.{vertexAt, placed, isAt};
+ghost use Rattle.trimesh.specs.Slices.{vertexAt};
+ghost use Rattle.stored.specs.Points.{placed, isAt};
 use math::Vec3;
 
 // Whether two points are equal as floats.

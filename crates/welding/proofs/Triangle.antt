@@ -16,7 +16,8 @@ use Rattle.math.specs.Vec.{vFinite}
 use Rattle.trimesh.specs.Mesh.{Mesh, plusZeroV, distinct, append, weldTriangle, weldSoup, everyFinite}
 use Rattle.weld.specs.declared.Welder.{Welder}
 use Rattle.welding.specs.declared.Welded.{Welded}
-use Rattle.weld.specs.Rep.{Held, held, placesOf, rowOf, Linked, Ready, Holds, Over, Rep, Runs}
+use Rattle.slices.specs.Every.{placesOf}
+use Rattle.weld.specs.Rep.{Held, held, rowOf, Linked, Ready, Holds, Over, Rep, Runs}
 use Rattle.weld.specs.States.{unfinite, shut, moreFaces}
 use Rattle.welding.specs.Steps.{withTriangle, weldPoints, PointRuns, TriangleRuns, PointsRun}
 use Rattle.weld.proofs.Places.{take-three, places-fit, places-long}
