@@ -15,8 +15,8 @@ use Rattle.matrix.specs.declared.Mat4.{Mat4}
 use Rattle.math.specs.Vec.{one}
 use Rattle.matrix.specs.Mat.{entry, rowOf, along, overW, transformPoint}
 use Rattle.slices.specs.Every.{every}
-use Rattle.trimesh.specs.Slices.{vecOf}
-use Rattle.triples.specs.Triples.{eachTo, vertexAt, movedTriple}
+use Rattle.trimesh.specs.Slices.{vecOf, vertexAt}
+use Rattle.triples.specs.Triples.{eachTo, movedTriple}
 use Rattle.affine.specs.Affine.{Affine, affinePoint, Movable}
 use Rattle.slices.proofs.Next.{every-at}
 use Rattle.triples.proofs.Each.{each-read}

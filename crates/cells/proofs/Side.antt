@@ -6,7 +6,8 @@ use Prim.Native.Nat.{ℕ, _<_, _^_}
 use lib.ListN.{length}
 use lib.Ieee.{Float}
 use Rattle.math.specs.declared.Vec3.{Vec3}
-use Rattle.trimesh.specs.Mesh.{finiteV, plusZeroV}
+use Rattle.math.specs.Vec.{vFinite}
+use Rattle.trimesh.specs.Mesh.{plusZeroV}
 use Rattle.weld.specs.declared.Welder.{Welder}
 use Rattle.weld.specs.Rep.{Held, held, Ready}
 use Rattle.welding.specs.declared.Welded.{Welded}
@@ -45,7 +46,7 @@ module _ (w : Welder) (vs : List Float) (ts ws : List ℕ) (R : Ready (held w vs
 
 -- all points are finite: b and c after `+ 0.0` are b′ and c′
 module _ (a b c d b′ c′ : Vec3) (na nd : ℕ) (h : Held) (q : Quad) (vs : List Float) (ts ws : List ℕ) (f : h .st .finite ≡ true) (e : h .st .room ≡ true)
-    (A : Known (h .st) (h .vertices) a na) (D : Known (h .st) (h .vertices) d nd) (fb : finiteV b ≡ true) (fc : finiteV c ≡ true) (eb : b′ ≡ plusZeroV b) (ec : c′ ≡ plusZeroV c)
+    (A : Known (h .st) (h .vertices) a na) (D : Known (h .st) (h .vertices) d nd) (fb : vFinite b ≡ true) (fc : vFinite c ≡ true) (eb : b′ ≡ plusZeroV b) (ec : c′ ≡ plusZeroV c)
     (flip : Bool) where
   pub side-straight : flip ≡ false → SideRuns b′ c′ na nd h q vs ts ws → Numbered (turned flip a b c d) a b c d h q vs ts ws
   side-straight s P =

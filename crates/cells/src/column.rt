@@ -38,8 +38,8 @@ pub fn weld_in_column(
     let finite = w.finite;
     let room = w.room;
     if known & finite & room {
-        if weld::is_finite(b) {
-            if weld::is_finite(c) {
+        if math::is_finite(b) {
+            if math::is_finite(c) {
                 let e = weld::plus_zero(b);
                 let f = weld::plus_zero(c);
                 if flip {

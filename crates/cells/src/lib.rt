@@ -76,7 +76,7 @@ pub fn weld_in_row(
     let room = w.room;
     if known & finite & room {
         if quads::is_vertex(vertices, w, nd, d) {
-            if weld::is_finite(c) {
+            if math::is_finite(c) {
                 let second = pick(flip, nd, nb);
                 let fourth = pick(flip, nb, nd);
                 let t = welding::weld_point(vertices, work, w, weld::plus_zero(c), nc);

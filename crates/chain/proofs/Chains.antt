@@ -16,7 +16,8 @@ use Rattle.math.specs.declared.Vec3.{Vec3}
 use Rattle.trimesh.specs.Mesh.{samePoint}
 use Rattle.chain.specs.declared.Found.{Found}
 use Rattle.chain.specs.declared.Found.the-variants.{At, Missing}
-use Rattle.stored.specs.Points.{Clean, vertexAt, placed}
+use Rattle.trimesh.specs.Slices.{vertexAt}
+use Rattle.stored.specs.Points.{Clean, placed}
 use Rattle.chain.specs.Hash.{bucketOf, latest, Stored, Agrees, Chained, linkedIn, FirstAt, Sought, Placing}
 use Rattle.stored.proofs.Clean.{same-data}
 use Rattle.stored.proofs.Places.{placed-at, placed-before, apart}

@@ -10,7 +10,8 @@ use Rattle.math.specs.declared.Vec3.{Vec3}
 use Rattle.trimesh.specs.Mesh.{samePoint}
 use Rattle.chain.specs.declared.Found.{Found}
 use Rattle.chain.specs.declared.Found.the-variants.{At, Missing}
-use Rattle.stored.specs.Points.{Clean, vertexAt, placed}
+use Rattle.trimesh.specs.Slices.{vertexAt}
+use Rattle.stored.specs.Points.{Clean, placed}
 
 -- one coordinate's bits, their halves multiplied apart
 unfoldable pub spreadOf : ℕ → ℕ → ℕ → ℕ

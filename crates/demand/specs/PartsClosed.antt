@@ -26,7 +26,7 @@ use Rattle.trimesh.specs.Welded.{fromSoup-closed}
 use Rattle.soups.specs.Grid.{Soup}
 use Rattle.soups.specs.Boxes.{isFull, pointAt}
 use Rattle.soups.specs.Polygons.{capTriangles, swaps}
-use Rattle.soups.proofs.Points.{FiniteV, FitsV, finiteV-says}
+use Rattle.soups.proofs.Points.{FiniteV, FitsV, finite-says}
 use Rattle.soups.proofs.BoxBalanced.{Bounded, boxSoup-balanced}
 use Rattle.soups.proofs.SphereBalanced.{sphereSoup-balanced, sphericalShellSoup-balanced}
 use Rattle.soups.proofs.CylinderBalanced.{cylinderSoup-balanced, cylindricalShellSoup-balanced}
@@ -68,10 +68,6 @@ counted p n e = three-each (whole p) ∙ ap (λ (k : ℕ). 3 * k) e
 
 -- ---- bounds
 
-finite-point : (p : Vec3) → T (vFinite p) → FiniteV p
-unfolding vFinite
-finite-point p h = finiteV-says p h
-
 bounded : (a b : Vec3) → FitsV a → FitsV b → FiniteV a → FiniteV b → UnequalBounds a b → Bounded a b
 bounded a b fa fb na nb u =
     record { fits-a = fa; fits-b = fb; finite-a = na; finite-b = nb; unequal-x = u .x; unequal-y = u .y; unequal-z = u .z }
@@ -100,7 +96,7 @@ module _ (cylindrical : Bool) (v : List Float) (o : TessellationOptions) (few : 
   unfolding partsOf shapeFinite itemFloats listOf
   parts-balanced (Box a b) g n l u =
       let t = true-T (vFinite a && vFinite b) n in
-      let h = bounded a b (g .0) (g .1) (finite-point a (and-l (vFinite a) (vFinite b) t)) (finite-point b (and-r (vFinite a) (vFinite b) t)) u in
+      let h = bounded a b (g .0) (g .1) (finite-says a (and-l (vFinite a) (vFinite b) t)) (finite-says b (and-r (vFinite a) (vFinite b) t)) u in
       (boxSoup-balanced cylindrical a b (o .segments) few h, tt)
   parts-balanced MultiBox g n l u = multiBoxParts-balanced cylindrical v (o .segments) few (boxes-bounded v f l u)
   parts-balanced (Sphere c r) g n l u = (sphereSoup-balanced cylindrical c r (o .segments) (o .«sphere_rings») (g .0), tt)

@@ -22,7 +22,7 @@ use Rattle.shape.specs.DrawingLaws.{corners-whole}
 use Rattle.solids.specs.Limits.{Bounded, Listed}
 use Rattle.parts.specs.Parts.{PartsRun}
 use Rattle.weld.specs.declared.Welder.{Welder}
-use Rattle.weld.specs.Rep.{Held, held, placesOf, Ready, Holds, Over, Rep, Begun}
+use Rattle.weld.specs.Rep.{Held, held, Ready, Holds, Over, Rep, Begun}
 use Rattle.weld.specs.Runs.{Fits, holds-fits}
 use Rattle.slices.specs.Every.{wholePlaces}
 use Rattle.meshcheck.specs.State.{state, stored}
@@ -51,11 +51,11 @@ or-true false = refl
 
 module _ (m : Mesh) (k : Held) where
   fitting : Fits m k → tooFewPlaces m (length (k .vertices)) (length (k .triangles)) ≡ false
-  unfolding tooFewPlaces wholePlaces placesOf
+  unfolding tooFewPlaces wholePlaces
   fitting f = λ j. le-ltb (wholePlaces (length (k .vertices))) (length (m .vertices)) (f .0) j || le-ltb (wholePlaces (length (k .triangles))) (length (m .triangles)) (f .1) j
 
   overfull : Over m k → tooFewPlaces m (length (k .vertices)) (length (k .triangles)) ≡ true
-  unfolding tooFewPlaces wholePlaces placesOf
+  unfolding tooFewPlaces wholePlaces
   overfull (inl w) = λ j. lt-ltb (wholePlaces (length (k .vertices))) (length (m .vertices)) w j || ltb (wholePlaces (length (k .triangles))) (length (m .triangles))
   overfull (inr w) =
       (λ j. ltb (wholePlaces (length (k .vertices))) (length (m .vertices)) || lt-ltb (wholePlaces (length (k .triangles))) (length (m .triangles)) w j)

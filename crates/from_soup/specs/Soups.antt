@@ -14,7 +14,7 @@ use Rattle.soups.specs.Grid.{Soup}
 use Rattle.shape.specs.Drawing.{pick}
 use Rattle.outcome.specs.Solid.{partsFinite}
 use Rattle.outcome.specs.Outcome.{Outcome, shortWork, tooFewPlaces, isAccepted, acceptedAs, refusedAs}
-use Rattle.triples.specs.Triples.{vertexAt}
+use Rattle.trimesh.specs.Slices.{vertexAt}
 
 -- triangle i of the slice
 abbrev pub triangleAt : List Float → ℕ → Tri Vec3

@@ -14,7 +14,8 @@ use Rattle.balance.specs.Buffer.{tris}
 use Rattle.trimesh.specs.Mesh.{Mesh}
 use Rattle.trimesh.specs.SliceLaws.{length-tris}
 use Rattle.trimesh.specs.Measures.{sumOf, volumeTerm, areaTerm, triangleSoup, signedVolume}
-use Rattle.triples.specs.Triples.{tripleAt, vertexAt, cornersAt, cornersOf, CornersWithin, AllWithin}
+use Rattle.trimesh.specs.Slices.{vertexAt}
+use Rattle.triples.specs.Triples.{tripleAt, cornersAt, cornersOf, CornersWithin, AllWithin}
 use Rattle.slices.proofs.Next.{Next, next-map, drop-end}
 use Rattle.triples.proofs.NextTriples.{next-counted}
 

@@ -14,14 +14,14 @@ use Rattle.math.specs.Vec.{zeroV}
 use Rattle.balance.specs.Soup.{Tri, mapTri}
 use Rattle.balance.specs.Buffer.{tris}
 use Rattle.trimesh.specs.Mesh.{Mesh}
-use Rattle.trimesh.specs.Slices.{points}
+use Rattle.trimesh.specs.Slices.{points, vertexAt}
 use Rattle.trimesh.specs.SliceLaws.{length-tris}
 use Rattle.trimesh.specs.Measures.{triangleSoup, sumOf, including, plusZeroBox, boundingBox}
 use Rattle.refusal.specs.declared.Refusal.{Refusal}
 use Rattle.meshmeasures.specs.declared.Measured.{Measured}
 use Rattle.meshmeasures.specs.declared.Boxed.{Boxed}
 use Rattle.meshcheck.specs.State.{State, meshOf, checkOf, isAccepted, Sound}
-use Rattle.triples.specs.Triples.{tripleAt, vertexAt, cornersOf, AllWithin}
+use Rattle.triples.specs.Triples.{tripleAt, cornersOf, AllWithin}
 use Rattle.meshmeasures.specs.Measures.{measureOf, boundingBoxOf}
 use Rattle.slices.proofs.Next.{getD-next}
 use Rattle.triples.proofs.NextTriples.{next-counted, next-points}

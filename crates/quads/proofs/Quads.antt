@@ -11,8 +11,10 @@ use lib.Ieee.{Float, fits, binary64}
 use Rattle.math.specs.declared.Vec3.{Vec3}
 use Rattle.balance.specs.Soup.{Tri}
 use Rattle.balance.specs.Grid.{quad}
-use Rattle.trimesh.specs.Mesh.{Mesh, samePoint, finiteV, plusZeroV, weldTriangle, weldSoup, everyFinite}
-use Rattle.stored.specs.Points.{Clean, vertexAt}
+use Rattle.math.specs.Vec.{vFinite}
+use Rattle.trimesh.specs.Mesh.{Mesh, samePoint, plusZeroV, weldTriangle, weldSoup, everyFinite}
+use Rattle.trimesh.specs.Slices.{vertexAt}
+use Rattle.stored.specs.Points.{Clean}
 use Rattle.stored.proofs.Clean.{clean-self, equal-clean}
 use Rattle.chain.specs.Hash.{Stored, FirstAt}
 use Rattle.chain.proofs.Chains.{not-both, first-at}
@@ -54,7 +56,7 @@ one-false true false z w (inr e) = refl
 one-false true true z w (inr e) = rw e
 
 -- where a point is not finite, nothing is written
-pub quad-stops : (w : Welder) (vs : List Float) (ts ws : List ℕ) (a b c d : Vec3) → Ready (held w vs ts ws) → (finiteV a && finiteV b && finiteV c && finiteV d) ≡ false
+pub quad-stops : (w : Welder) (vs : List Float) (ts ws : List ℕ) (a b c d : Vec3) → Ready (held w vs ts ws) → (vFinite a && vFinite b && vFinite c && vFinite d) ≡ false
     → Runs ((a, b, c) ∷ (a, c, d) ∷ []) (held w vs ts ws) (held (unfinite w) vs ts ws)
 unfolding everyFinite
 quad-stops w vs ts ws a b c d R n =
@@ -63,7 +65,7 @@ quad-stops w vs ts ws a b c d R n =
       vlong = refl;
       tlong = refl;
       wlong = refl;
-      finite = and-false (w .finite) (everyFinite ((a, b, c) ∷ (a, c, d) ∷ [])) (quad-finite (finiteV a) (finiteV b) (finiteV c) (finiteV d) ∙ n);
+      finite = and-false (w .finite) (everyFinite ((a, b, c) ∷ (a, c, d) ∷ [])) (quad-finite (vFinite a) (vFinite b) (vFinite c) (vFinite d) ∙ n);
       rep = λ e. absurd (not-both false e refl);
     }
 
@@ -106,7 +108,7 @@ and-true : (v x : Bool) → x ≡ true → v ≡ (v && x)
 and-true true x e = sym e
 and-true false x e = refl
 
-pub quad-runs : (a b c d a′ b′ c′ d′ : Vec3) (h k : Held) → finiteV a ≡ true → finiteV b ≡ true → finiteV c ≡ true → finiteV d ≡ true
+pub quad-runs : (a b c d a′ b′ c′ d′ : Vec3) (h k : Held) → vFinite a ≡ true → vFinite b ≡ true → vFinite c ≡ true → vFinite d ≡ true
     → a′ ≡ plusZeroV a → b′ ≡ plusZeroV b → c′ ≡ plusZeroV c → d′ ≡ plusZeroV d → QuadRuns a′ b′ c′ d′ h k → Runs (quad a b c d) h k
 unfolding everyFinite weldSoup weldTriangle weldPoints
 quad-runs a b c d a′ b′ c′ d′ h k fa fb fc fd ea eb ec ed P =
@@ -115,14 +117,14 @@ quad-runs a b c d a′ b′ c′ d′ h k fa fb fc fd ea eb ec ed P =
       vlong = P .vlong;
       tlong = P .tlong;
       wlong = P .wlong;
-      finite = P .finite ∙ and-true (h .st .finite) (everyFinite (quad a b c d)) (quad-finite (finiteV a) (finiteV b) (finiteV c) (finiteV d) ∙ (λ i. fa i && fb i && fc i && fd i));
+      finite = P .finite ∙ and-true (h .st .finite) (everyFinite (quad a b c d)) (quad-finite (vFinite a) (vFinite b) (vFinite c) (vFinite d) ∙ (λ i. fa i && fb i && fc i && fd i));
       rep = λ e D S Q. subst (λ (M : Mesh). Rep D M k) (λ i. weldPoints (weldPoints S (ea i) (eb i) (ec i)) (ea i) (ec i) (ed i)) (P .rep D S Q);
     }
 
-known-given : (w : Welder) (vs : List Float) (p p′ : Vec3) (m : ℕ) → finiteV p ≡ true → p′ ≡ plusZeroV p → Given w vs p′ m → Known w vs p m
+known-given : (w : Welder) (vs : List Float) (p p′ : Vec3) (m : ℕ) → vFinite p ≡ true → p′ ≡ plusZeroV p → Given w vs p′ m → Known w vs p m
 known-given w vs p p′ m f e G = record { finite = λ _ _. f; first = λ _ r. subst (λ (v : Vec3). FirstAt vs (w .base) (w .count) v m) e (G r) }
 
-pub quad-numbered : (a b c d a′ b′ c′ d′ : Vec3) (h : Held) (q : Quad) (vs : List Float) (ts ws : List ℕ) → finiteV a ≡ true → finiteV b ≡ true → finiteV c ≡ true → finiteV d ≡ true
+pub quad-numbered : (a b c d a′ b′ c′ d′ : Vec3) (h : Held) (q : Quad) (vs : List Float) (ts ws : List ℕ) → vFinite a ≡ true → vFinite b ≡ true → vFinite c ≡ true → vFinite d ≡ true
     → a′ ≡ plusZeroV a → b′ ≡ plusZeroV b → c′ ≡ plusZeroV c → d′ ≡ plusZeroV d → CornersRun a′ b′ c′ d′ h q vs ts ws → Numbered (quad a b c d) a b c d h q vs ts ws
 quad-numbered a b c d a′ b′ c′ d′ h q vs ts ws fa fb fc fd ea eb ec ed P =
     record {
@@ -167,7 +169,7 @@ both-runs a b c d w vs ts ws pa vs₁ ws₁ pb vs₂ ws₂ pc vs₃ ws₃ u ts�
 -- ---- a quad of which only c is looked up
 module _ (w : Welder) (vs : List Float) (ts ws : List ℕ) (R : Ready (held w vs ts ws)) (f : w .finite ≡ true) (e : w .room ≡ true) where
   pub last-runs : (c c′ : Vec3) (na nb nd : ℕ) (t : Welded) (vs′ : List Float) (ws′ : List ℕ) (u : Welder) (ts₁ : List ℕ) (v : Welder) (ts₂ : List ℕ)
-      → finiteV c ≡ true → c′ ≡ plusZeroV c
+      → vFinite c ≡ true → c′ ≡ plusZeroV c
       → PointRuns c′ w vs ws t vs′ ws′ → TriangleRuns na nb (t .number) (t .st) ts u ts₁ → TriangleRuns na (t .number) nd u ts₁ v ts₂
       → length vs′ ≡ length vs → length ts₁ ≡ length ts → length ts₂ ≡ length ts₁ → length ws′ ≡ length ws → na < 2 ^ 32 → nb < 2 ^ 32 → nd < 2 ^ 32
       → LastRuns c na nb nd (held w vs ts ws) (record { number = t .number; st = v }) vs′ ts₂ ws′
@@ -181,8 +183,8 @@ module _ (w : Welder) (vs : List Float) (ts ws : List ℕ) (R : Ready (held w vs
       (point-known u vs′ ws′ (plusZeroV d) nd L₁ sd (λ q. first-moved (t .st) u (T₁ .base) (T₁ .count) (P .stays (T₁ .sticky q) (plusZeroV d) nd (D .first f e))))
       T₂ lv refl lt lt₂ lw refl)
 
-pub last-stops : (w : Welder) (vs : List Float) (ts ws : List ℕ) → Ready (held w vs ts ws) → (c : Vec3) (na nb nd : ℕ) → finiteV c ≡ false
+pub last-stops : (w : Welder) (vs : List Float) (ts ws : List ℕ) → Ready (held w vs ts ws) → (c : Vec3) (na nb nd : ℕ) → vFinite c ≡ false
     → LastRuns c na nb nd (held w vs ts ws) (record { number = 0; st = unfinite w }) vs ts ws
 last-stops w vs ts ws R c na nb nd n a b d A B D =
     numbered-stopped (quad a b c d) a b c d (held w vs ts ws) (quadWith (record { number = 0; st = unfinite w }) na nb nd) vs ts ws refl
-    (quad-stops w vs ts ws a b c d R (one-false (finiteV a) (finiteV b) (finiteV c) (finiteV d) (inr n)))
+    (quad-stops w vs ts ws a b c d R (one-false (vFinite a) (vFinite b) (vFinite c) (vFinite d) (inr n)))

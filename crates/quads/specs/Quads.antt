@@ -1,6 +1,6 @@
 -- What welding a quad's two triangles does to the slices, and which vertices its points are afterwards. Definitions only.
 use mathlib.Core.Path.{_≡_}
-use mathlib.Core.Bool.{true}
+use mathlib.Core.Bool.{Bool, true}
 use mathlib.Core.List.{List}
 use Prim.Native.Nat.{ℕ}
 use lib.ListN.{length}
@@ -8,7 +8,9 @@ use lib.Ieee.{Float}
 use Rattle.math.specs.declared.Vec3.{Vec3}
 use Rattle.balance.specs.Soup.{Tri}
 use Rattle.balance.specs.Grid.{quad}
-use Rattle.trimesh.specs.Mesh.{Mesh, finiteV, plusZeroV}
+use Rattle.math.specs.Vec.{vFinite}
+use Rattle.trimesh.specs.Mesh.{Mesh, plusZeroV}
+use Rattle.stored.specs.Points.{isAt}
 use Rattle.chain.specs.Hash.{FirstAt}
 use Rattle.weld.specs.declared.Welder.{Welder}
 use Rattle.weld.specs.Rep.{Held, held, Ready, Rep, Runs}
@@ -16,13 +18,17 @@ use Rattle.welding.specs.declared.Welded.{Welded}
 use Rattle.welding.specs.Steps.{weldPoints}
 use Rattle.quads.specs.declared.Quad.{Quad}
 
+-- m is a vertex of this part, and p equals it
+abbrev pub isVertex : Welder → List Float → Vec3 → ℕ → Bool
+isVertex w vs p m = isAt vs (w .base) (w .count) p m
+
 -- where there is room, m is the first vertex of this part that equals p, which came out of `+ 0.0`
 abbrev pub Given : Welder → List Float → Vec3 → ℕ → Type 0
 Given w vs p m = w .room ≡ true → FirstAt vs (w .base) (w .count) p m
 
 -- where the welder goes on, p is finite, and m is the vertex of p: the first of this part that equals p after `+ 0.0`
 pub record Known (w : Welder) (vs : List Float) (p : Vec3) (m : ℕ) : Type 0 where
-  pub finite : w .finite ≡ true → w .room ≡ true → finiteV p ≡ true
+  pub finite : w .finite ≡ true → w .room ≡ true → vFinite p ≡ true
   pub first : w .finite ≡ true → Given w vs (plusZeroV p) m
 
 -- a soup of the points a, b, c and d was welded, and the numbers of q are theirs

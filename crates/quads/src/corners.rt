@@ -1,11 +1,11 @@
 // The points of a quad: which are vertices already, and numbers for the others.
 ghost use mathlib.Core.Path.{_≡_};
-ghost use mathlib.Core.Bool.{true};
+ghost use mathlib.Core.Bool.{true, _&&_};
 ghost use Prim.Native.Nat.{_<_, _^_};
 ghost use Rattle.stored.specs.Points.{Clean};
 ghost use Rattle.chain.specs.Hash.{Stored};
 ghost use Rattle.weld.specs.Rep.{held, Ready};
-ghost use Rattle.quads.specs.Quads.{Known, CornersRun, LastRuns};
+ghost use Rattle.quads.specs.Quads.{isVertex, Known, CornersRun, LastRuns};
 use crate::Quad;
 use math::Vec3;
 use weld::Welder;
@@ -14,7 +14,7 @@ use welding::Welded;
 // Whether p equals vertex m, and this is one of this part. If so p is finite, as all vertices are.
 pub fn is_vertex(vertices: &[f64], w: Welder, m: usize, p: Vec3) -> bool
     requires { ⌜ Stored (now vertices) (w .places) (w .base) (w .count) ⌝ }
-    ensures { λ r. ⌜ (r ≡ true → Known w (now (vertices .entry)) p m) ⌝ }
+    ensures { λ r. ⌜ (r ≡ isVertex w (now (vertices .entry)) p m) × (r ≡ true → Known w (now (vertices .entry)) p m) ⌝ }
 {
     stored::is_at(vertices, w.base, w.count, m, p)
 }
@@ -31,7 +31,8 @@ pub fn are_at(
     nd: usize,
 ) -> bool
     requires { ⌜ Stored (now vertices) (w .places) (w .base) (w .count) ⌝ }
-    ensures { λ r. ⌜ (r ≡ true → Known w (now (vertices .entry)) a na × Known w (now (vertices .entry)) b nb × Known w (now (vertices .entry)) d nd) ⌝ }
+    ensures { λ r. ⌜ (r ≡ (isVertex w (now (vertices .entry)) a na && isVertex w (now (vertices .entry)) b nb && isVertex w (now (vertices .entry)) d nd))
+        × (r ≡ true → Known w (now (vertices .entry)) a na × Known w (now (vertices .entry)) b nb × Known w (now (vertices .entry)) d nd) ⌝ }
 {
     if is_vertex(vertices, w, na, a) {
         if is_vertex(vertices, w, nb, b) {
@@ -60,7 +61,7 @@ pub fn weld_last(
         (held w (now (vertices .entry)) (now (triangles .entry)) (now (work .entry)))
         r (now (vertices .exit)) (now (triangles .exit)) (now (work .exit)) ⌝ }
 {
-    if !weld::is_finite(c) {
+    if !math::is_finite(c) {
         return Welded {
             number: 0,
             st: weld::stopped(w),

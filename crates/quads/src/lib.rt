@@ -2,7 +2,7 @@
 ghost use mathlib.Core.Path.{_≡_};
 ghost use mathlib.Core.Bool.{_&&_};
 ghost use Rattle.balance.specs.Grid.{quad};
-ghost use Rattle.trimesh.specs.Mesh.{finiteV};
+ghost use Rattle.math.specs.Vec.{vFinite};
 ghost use Rattle.weld.specs.Rep.{held, Ready};
 ghost use Rattle.quads.specs.Quads.{Numbered};
 
@@ -94,12 +94,12 @@ fn unnumbered(w: Welder) -> Quad
 
 // Whether four points are finite.
 fn are_finite(a: Vec3, b: Vec3, c: Vec3, d: Vec3) -> bool
-    ensures { λ r. ⌜ r ≡ (finiteV a && finiteV b && finiteV c && finiteV d) ⌝ }
+    ensures { λ r. ⌜ r ≡ (vFinite a && vFinite b && vFinite c && vFinite d) ⌝ }
 {
-    if weld::is_finite(a) {
-        if weld::is_finite(b) {
-            if weld::is_finite(c) {
-                return weld::is_finite(d);
+    if math::is_finite(a) {
+        if math::is_finite(b) {
+            if math::is_finite(c) {
+                return math::is_finite(d);
             }
         }
     }

@@ -12,9 +12,10 @@ use Rattle.ieee.specs.Same.{true-T}
 use Rattle.balance.specs.Soup.{Tri, rev, Balanced, mapTri}
 use Rattle.balance.specs.Grid as Plain
 use Rattle.balance.specs.Grid.{quad, upto, upto-cong, grid₁-grid, gridR₁-gridR, sum-gridR}
-use Rattle.trimesh.specs.Mesh.{finiteV, everyFinite}
+use Rattle.math.specs.Vec.{vFinite}
+use Rattle.trimesh.specs.Mesh.{everyFinite}
 use Rattle.soups.specs.Grid.{Soup, grid}
-use Rattle.soups.proofs.Points.{FiniteV, finiteV-says}
+use Rattle.soups.proofs.Points.{FiniteV, finite-says}
 
 module _ {P : Type 0} where
   abbrev pub Every : (P → Type 0) → List (Tri P) → Type 0
@@ -85,14 +86,14 @@ sound-of ts h = go ts (true-T (everyFinite ts) h)
     go : (ts : Soup) → T (everyFinite ts) → Sound ts
     go [] h = tt
     go (t ∷ ts) h =
-        let a = finiteV (t .0) in
-        let b = finiteV (t .1) in
-        let c = finiteV (t .2) in
+        let a = vFinite (t .0) in
+        let b = vFinite (t .1) in
+        let c = vFinite (t .2) in
         let abc : T (a && b && c) = and-l (a && b && c) (everyFinite ts) h in
         let ab : T (a && b) = and-l (a && b) c abc in (
-          finiteV-says (t .0) (and-l a b ab),
-          finiteV-says (t .1) (and-r a b ab),
-          finiteV-says (t .2) (and-r (a && b) c abc),
+          finite-says (t .0) (and-l a b ab),
+          finite-says (t .1) (and-r a b ab),
+          finite-says (t .2) (and-r (a && b) c abc),
           go ts (and-r (a && b && c) (everyFinite ts) h),
         )
 

@@ -10,7 +10,7 @@ use lib.Ieee.{fin, add, sub, mul, div, neg, ofInt, ofBits, eq, lt, le, isNan, fi
 use Rattle.ieee.specs.Number.{plusZero, minimum, maximum, absolute, ceiling, tau}
 use Rattle.trig.specs.Trig.{sinCos}
 use Rattle.math.specs.declared.Vec3.{Vec3}
-use Rattle.math.specs.Vec.{new, one, zeroV, axis, withAxis, vAdd, vMul, vMin, vMax}
+use Rattle.math.specs.Vec.{new, one, zeroV, axis, withAxis, vAdd, vMul, vMin, vMax, vFinite}
 use Rattle.balance.specs.Soup.{Balanced, mapTri}
 use Rattle.trimesh.specs.Mesh.{plusZeroV, everyFinite}
 use Rattle.soups.specs.Grid.{Soup, grid}
@@ -37,7 +37,7 @@ unfolding sphereSoup sphere le grid
 ball-size = refl
 
 pub ball-finite : everyFinite ball ≡ true
-unfolding sphereSoup toCartesian sphere le grid spherePoint onSphere vAdd vMul latitude longitude sinCos everyFinite ofBits mul add sub neg div ofInt
+unfolding sphereSoup toCartesian sphere le grid spherePoint onSphere vAdd vMul latitude longitude sinCos everyFinite vFinite ofBits mul add sub neg div ofInt
 ball-finite = refl
 
 zero-fits : FitsV zeroV
@@ -66,7 +66,7 @@ unfolding boxShape paramBox faces face grid facePoint withAxis coord axis vMin v
 block-first = refl
 
 pub block-finite : everyFinite block ≡ true
-unfolding boxShape paramBox faces face grid facePoint withAxis coord axis vMin vMax minimum maximum isNan lt eq everyFinite add sub mul div ofInt
+unfolding boxShape paramBox faces face grid facePoint withAxis coord axis vMin vMax minimum maximum isNan lt eq everyFinite vFinite add sub mul div ofInt
 block-finite = refl
 
 block-bounded : Bounded zeroV farCorner

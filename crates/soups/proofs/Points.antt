@@ -12,8 +12,9 @@ use lib.Ieee.Scale.{finite}
 use Rattle.ieee.specs.Number.{isZero, Same, plusZero}
 use Rattle.ieee.specs.Same.{round-zero, no-size, add-same, mul-same}
 use Rattle.math.specs.declared.Vec3.{Vec3}
-use Rattle.math.specs.Vec.{new, vAdd, vMul}
-use Rattle.trimesh.specs.Mesh.{finiteV, plusZeroV}
+use Rattle.math.specs.Vec.{new, vAdd, vMul, vFinite}
+use Rattle.math.specs.Laws.{finite-x, finite-y, finite-z}
+use Rattle.trimesh.specs.Mesh.{plusZeroV}
 
 pub record SameV (p q : Vec3) : Type 0 where
   pub x : Same (p .x) (q .x)
@@ -31,12 +32,8 @@ pub record FitsV (p : Vec3) : Type 0 where
   pub y : T (fits binary64 (p .y))
   pub z : T (fits binary64 (p .z))
 
-pub finiteV-says : (p : Vec3) → T (finiteV p) → FiniteV p
-finiteV-says p h =
-    let a = finite (p .x) in
-    let b = finite (p .y) in
-    let c = finite (p .z) in
-    record { x = and-l a b (and-l (a && b) c h); y = and-r a b (and-l (a && b) c h); z = and-r (a && b) c h }
+pub finite-says : (p : Vec3) → T (vFinite p) → FiniteV p
+finite-says p h = record { x = finite-x p h; y = finite-y p h; z = finite-z p h }
 
 pub sameV-refl : (p : Vec3) → SameV p p
 sameV-refl p = record { x = inl refl; y = inl refl; z = inl refl }

@@ -7,7 +7,9 @@ use lib.Ieee.Fits.{add-fits, and-l, and-r}
 use lib.Ieee.Scale.{finite}
 use Rattle.ieee.specs.Same.{canon, plus-zero, canon-finite, canon-canon, same→canon, eq→same, true-T, T-true, finite-not-nan, eq-refl}
 use Rattle.math.specs.declared.Vec3.{Vec3}
-use Rattle.trimesh.specs.Mesh.{samePoint, plusZeroV, finiteV}
+use Rattle.math.specs.Vec.{vFinite}
+use Rattle.math.specs.Laws.{finite-x, finite-y, finite-z, finite-all}
+use Rattle.trimesh.specs.Mesh.{samePoint, plusZeroV}
 use Rattle.trimesh.specs.SelfSame.{zero-bits}
 use Rattle.stored.specs.Points.{CleanFloat, Clean}
 
@@ -34,16 +36,11 @@ plus-clean x f t =
       canonical = ap canon e ∙ canon-canon x ∙ sym e;
     }
 
-pub clean-after : (p : Vec3) → T (fits binary64 (p .x)) → T (fits binary64 (p .y)) → T (fits binary64 (p .z)) → finiteV p ≡ true → Clean (plusZeroV p)
+pub clean-after : (p : Vec3) → T (fits binary64 (p .x)) → T (fits binary64 (p .y)) → T (fits binary64 (p .z)) → vFinite p ≡ true → Clean (plusZeroV p)
 unfolding plusZeroV
 clean-after p a b c h =
-    let t : T (finiteV p) = true-T (finiteV p) h in
-    let xy : T (finite (p .x) && finite (p .y)) = and-l (finite (p .x) && finite (p .y)) (finite (p .z)) t in
-    record {
-      cx = plus-clean (p .x) a (and-l (finite (p .x)) (finite (p .y)) xy);
-      cy = plus-clean (p .y) b (and-r (finite (p .x)) (finite (p .y)) xy);
-      cz = plus-clean (p .z) c (and-r (finite (p .x) && finite (p .y)) (finite (p .z)) t);
-    }
+    let t : T (vFinite p) = true-T (vFinite p) h in
+    record { cx = plus-clean (p .x) a (finite-x p t); cy = plus-clean (p .y) b (finite-y p t); cz = plus-clean (p .z) c (finite-z p t) }
 
 -- a clean point equals itself
 pub clean-self : (p : Vec3) → Clean p → samePoint p p ≡ true
@@ -68,7 +65,7 @@ module _ (v x : Float) (c : CleanFloat v) (f : T (fits binary64 x)) (e : T (eq v
   plus-equal : add binary64 x (ofBits binary64 0) ≡ v
   plus-equal = ap (add binary64 x) zero-bits ∙ plus-zero binary64 x f ∙ canon-equal
 
-pub equal-clean : (v p : Vec3) → Clean v → T (fits binary64 (p .x)) → T (fits binary64 (p .y)) → T (fits binary64 (p .z)) → samePoint v p ≡ true → (finiteV p ≡ true) × (plusZeroV p ≡ v)
+pub equal-clean : (v p : Vec3) → Clean v → T (fits binary64 (p .x)) → T (fits binary64 (p .y)) → T (fits binary64 (p .z)) → samePoint v p ≡ true → (vFinite p ≡ true) × (plusZeroV p ≡ v)
 unfolding samePoint plusZeroV
 equal-clean v p cv fx fy fz h =
     let t : T (samePoint v p) = true-T (samePoint v p) h in
@@ -76,10 +73,10 @@ equal-clean v p cv fx fy fz h =
     let ex : T (eq (v .x) (p .x)) = and-l (eq (v .x) (p .x)) (eq (v .y) (p .y)) xy in
     let ey : T (eq (v .y) (p .y)) = and-r (eq (v .x) (p .x)) (eq (v .y) (p .y)) xy in
     let ez : T (eq (v .z) (p .z)) = and-r (eq (v .x) (p .x) && eq (v .y) (p .y)) (eq (v .z) (p .z)) t in
-    let tx : finite (p .x) ≡ true = T-true (finite (p .x)) (finite-equal (v .x) (p .x) (cv .cx) fx ex) in
-    let ty : finite (p .y) ≡ true = T-true (finite (p .y)) (finite-equal (v .y) (p .y) (cv .cy) fy ey) in
-    let tz : finite (p .z) ≡ true = T-true (finite (p .z)) (finite-equal (v .z) (p .z) (cv .cz) fz ez) in (
-      (λ i. tx i && ty i && tz i),
+    let tx : T (finite (p .x)) = finite-equal (v .x) (p .x) (cv .cx) fx ex in
+    let ty : T (finite (p .y)) = finite-equal (v .y) (p .y) (cv .cy) fy ey in
+    let tz : T (finite (p .z)) = finite-equal (v .z) (p .z) (cv .cz) fz ez in (
+      T-true (vFinite p) (finite-all p tx ty tz),
       (λ i. record {
         x = plus-equal (v .x) (p .x) (cv .cx) fx ex i;
         y = plus-equal (v .y) (p .y) (cv .cy) fy ey i;

@@ -8,7 +8,8 @@ use lib.ListN.{length, getD, set, length-set}
 use lib.Seq.{getD-set-same, getD-set-other}
 use lib.Ieee.{Float, nan}
 use Rattle.math.specs.declared.Vec3.{Vec3}
-use Rattle.stored.specs.Points.{vertexAt, placed}
+use Rattle.trimesh.specs.Slices.{vertexAt}
+use Rattle.stored.specs.Points.{placed}
 
 pub apart : {A : Type 0} (l : List A) (i j : ℕ) (a d : A) → (j < i) ⊎ (i < j) → getD (set l i a) j d ≡ getD l j d
 apart l i j a d h = getD-set-other l i j a d (λ e. ⊎-elim (λ w. omega arith) (λ w. omega arith) h)

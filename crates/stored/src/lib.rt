@@ -1,10 +1,10 @@
 // The vertices of a lent slice, three floats each: reading and writing one, and comparing it with a point.
 ghost use mathlib.Core.Path.{_≡_};
-ghost use mathlib.Core.Bool.{true};
-ghost use Prim.Native.Nat.{_+_, _*_, _<_, _≤_};
+ghost use Prim.Native.Nat.{_+_, _*_, _≤_};
 ghost use lib.ListN.{length};
 ghost use Rattle.trimesh.specs.Mesh.{samePoint};
-ghost use Rattle.stored.specs.Points.{vertexAt, placed};
+ghost use Rattle.trimesh.specs.Slices.{vertexAt};
+ghost use Rattle.stored.specs.Points.{placed, isAt};
 use math::Vec3;
 
 // Whether two points are equal as floats.
@@ -46,7 +46,7 @@ pub fn place(vertices: &mut [f64], m: usize, p: Vec3)
 // Whether vertex m is one from `base` below `count` and equals p.
 pub fn is_at(vertices: &[f64], base: usize, count: usize, m: usize, p: Vec3) -> bool
     requires { ⌜ 3 * count ≤ length (now vertices) ⌝ }
-    ensures { λ r. ⌜ (r ≡ true → (base ≤ m) × (m < count) × (samePoint (vertexAt (now (vertices .entry)) m) p ≡ true)) ⌝ }
+    ensures { λ r. ⌜ r ≡ isAt (now (vertices .entry)) base count p m ⌝ }
 {
     if m < base {
         return false;

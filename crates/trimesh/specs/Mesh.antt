@@ -5,13 +5,9 @@ use Prim.Native.Nat.{ℕ, zero, suc, _+_}
 use lib.ListN.{length}
 use lib.Dec.{eqb}
 use lib.Ieee.{Float, binary64, add, eq, ofBits}
-use lib.Ieee.Scale.{finite}
 use Rattle.math.specs.declared.Vec3.{Vec3}
+use Rattle.math.specs.Vec.{vFinite}
 use Rattle.balance.specs.Soup.{Tri, mapTri}
-
--- Vec3::is_finite
-abbrev pub finiteV : Vec3 → Bool
-finiteV p = finite (p .x) && finite (p .y) && finite (p .z)
 
 -- struct TriMesh: the vertices, and the triangles as triples of vertex numbers
 pub record Mesh : Type 0 where
@@ -76,7 +72,7 @@ fromSoup soup = weldSoup noMesh soup
 -- `Vec3::is_finite` of every point of a soup
 unfoldable pub everyFinite : List (Tri Vec3) → Bool
 everyFinite [] = true
-everyFinite (t ∷ ts) = finiteV (t .0) && finiteV (t .1) && finiteV (t .2) && everyFinite ts
+everyFinite (t ∷ ts) = vFinite (t .0) && vFinite (t .1) && vFinite (t .2) && everyFinite ts
 
 -- TriMesh::append: the other's vertices follow, and its numbers go up by the number of vertices before
 unfoldable pub append : Mesh → Mesh → Mesh

@@ -8,7 +8,9 @@ use lib.Ieee.Fits.{and-l, and-r, and-i}
 use lib.Ieee.Scale.{finite}
 use Rattle.ieee.specs.Same.{plusZero, eq-refl, true-T, T-true}
 use Rattle.math.specs.declared.Vec3.{Vec3}
-use Rattle.trimesh.specs.Mesh.{finiteV, plusZeroV, samePoint}
+use Rattle.math.specs.Vec.{vFinite}
+use Rattle.math.specs.Laws.{finite-x, finite-y, finite-z}
+use Rattle.trimesh.specs.Mesh.{plusZeroV, samePoint}
 
 pub zero-bits : ofBits binary64 0 ≡ plusZero
 unfolding ofBits ofFields odd
@@ -46,15 +48,11 @@ plus-real f (fin s m e) h = sum-real f s _ false _ _
 plus-self : (x : Float) → T (finite x) → T (eq (add binary64 x (ofBits binary64 0)) (add binary64 x (ofBits binary64 0)))
 plus-self x h = eq-refl (add binary64 x (ofBits binary64 0)) (subst (λ (z : Float). T (not (isNan (add binary64 x z)))) (sym zero-bits) (plus-real binary64 x h))
 
-pub same-self : (p : Vec3) → finiteV p ≡ true → samePoint (plusZeroV p) (plusZeroV p) ≡ true
+pub same-self : (p : Vec3) → vFinite p ≡ true → samePoint (plusZeroV p) (plusZeroV p) ≡ true
 unfolding samePoint plusZeroV
 same-self p h =
-    let t : T (finiteV p) = true-T (finiteV p) h in
-    let x : Bool = finite (p .x) in
-    let y : Bool = finite (p .y) in
-    let z : Bool = finite (p .z) in
+    let t : T (vFinite p) = true-T (vFinite p) h in
     let q : Vec3 = plusZeroV p in
-    let xy : T (x && y) = and-l (x && y) z t in
     T-true (samePoint q q)
     (and-i (eq (q .x) (q .x) && eq (q .y) (q .y)) (eq (q .z) (q .z))
-    (and-i (eq (q .x) (q .x)) (eq (q .y) (q .y)) (plus-self (p .x) (and-l x y xy)) (plus-self (p .y) (and-r x y xy))) (plus-self (p .z) (and-r (x && y) z t)))
+    (and-i (eq (q .x) (q .x)) (eq (q .y) (q .y)) (plus-self (p .x) (finite-x p t)) (plus-self (p .y) (finite-y p t))) (plus-self (p .z) (finite-z p t)))

@@ -1,6 +1,8 @@
 -- How a mesh lies in lent slices (document 01, "Recast for lent memory"): three floats a vertex. Triangles are `flat` and `tris` of balance's Buffer. Definitions only.
 use mathlib.Core.List.{List, [], _∷_, _++_}
-use lib.Ieee.{Float}
+use Prim.Native.Nat.{ℕ, _+_, _*_}
+use lib.ListN.{getD}
+use lib.Ieee.{Float, nan}
 use Rattle.math.specs.declared.Vec3.{Vec3}
 use Rattle.balance.specs.Soup.{Tri}
 
@@ -26,3 +28,7 @@ triOf p = (p .x, p .y, p .z)
 
 abbrev pub vecOf : Tri Float → Vec3
 vecOf t = record { x = t .0; y = t .1; z = t .2 }
+
+-- vertex m of a slice
+abbrev pub vertexAt : List Float → ℕ → Vec3
+vertexAt vs m = record { x = getD vs (3 * m) nan; y = getD vs (3 * m + 1) nan; z = getD vs (3 * m + 2) nan }

@@ -13,7 +13,8 @@ use borrow.Author.Tests.{eq-eqb, ne-eqb}
 use Rattle.math.specs.declared.Vec3.{Vec3}
 use Rattle.balance.specs.Soup.{Tri, mapTri}
 use Rattle.trimesh.specs.Slices.{flatV}
-use Rattle.trimesh.specs.Mesh.{Mesh, noMesh, samePoint, firstSight, withPoint, weldTriangle, weldSoup, everyFinite, finiteV, append}
+use Rattle.math.specs.Vec.{vFinite}
+use Rattle.trimesh.specs.Mesh.{Mesh, noMesh, samePoint, firstSight, withPoint, weldTriangle, weldSoup, everyFinite, append}
 
 -- ---- first sight
 module _ (p d : Vec3) where
@@ -128,7 +129,7 @@ pub everyFinite-append : (xs ys : List (Tri Vec3)) → everyFinite (xs ++ ys) �
 unfolding everyFinite
 everyFinite-append [] ys = refl
 everyFinite-append (t ∷ xs) ys =
-    let f : Bool = finiteV (t .0) && finiteV (t .1) && finiteV (t .2) in
+    let f : Bool = vFinite (t .0) && vFinite (t .1) && vFinite (t .2) in
     ap (λ (b : Bool). f && b) (everyFinite-append xs ys) ∙ and-assoc f (everyFinite xs) (everyFinite ys)
 
 -- ---- slices

@@ -14,7 +14,8 @@ use Rattle.math.specs.declared.Vec3.{Vec3}
 use Rattle.balance.specs.Soup.{Tri, mapTri, Balanced}
 use Rattle.balance.specs.Count as Count
 use Rattle.balance.specs.Count.{keepIf, welded-closed}
-use Rattle.trimesh.specs.Mesh.{Mesh, noMesh, finiteV, plusZeroV, samePoint, firstSight, withPoint, distinct, weldTriangle, weldSoup, fromSoup, everyFinite}
+use Rattle.math.specs.Vec.{vFinite}
+use Rattle.trimesh.specs.Mesh.{Mesh, noMesh, plusZeroV, samePoint, firstSight, withPoint, distinct, weldTriangle, weldSoup, fromSoup, everyFinite}
 use Rattle.trimesh.specs.Closed.{allOf, below, Closed, Proper}
 use Rattle.trimesh.specs.WeldLaws.{with-longer, with-front, sight-stays, sight-with, sight-there}
 use Rattle.trimesh.specs.SelfSame.{same-self}
@@ -148,7 +149,7 @@ welded-triangles S (t ∷ soup) h =
     let us : List Vec3 = S .vertices in
     let ua : List Vec3 = withPoint us a in
     let ub : List Vec3 = withPoint ua b in
-    let f = four (finiteV (t .0)) (finiteV (t .1)) (finiteV (t .2)) (everyFinite soup) h in
+    let f = four (vFinite (t .0)) (vFinite (t .1)) (vFinite (t .2)) (everyFinite soup) h in
     let T₁ : Mesh = weldTriangle S t in
     let vs : List Vec3 = weldSoup T₁ soup .vertices in
     let last : Front (withPoint ub c) vs = soup-front T₁ soup in

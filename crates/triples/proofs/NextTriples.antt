@@ -9,9 +9,9 @@ use lib.Ieee.{Float, nan}
 use Rattle.slices.proofs.Next.{Next, next-at, next-map}
 use Rattle.balance.specs.Soup.{Tri}
 use Rattle.balance.specs.Buffer.{tris}
-use Rattle.trimesh.specs.Slices.{points, vecOf}
+use Rattle.trimesh.specs.Slices.{points, vecOf, vertexAt}
 use Rattle.trimesh.specs.SliceLaws.{tris-drop, points-tris}
-use Rattle.triples.specs.Triples.{tripleAt, vertexAt}
+use Rattle.triples.specs.Triples.{tripleAt}
 
 module _ {A : Type 0} where
   -- the three elements of place i

@@ -7,7 +7,7 @@ use Rattle.math.specs.declared.Vec3.{Vec3}
 use Rattle.matrix.specs.declared.Mat4.{Mat4}
 use Rattle.matrix.specs.Mat.{transformPoint}
 use Rattle.balance.specs.Soup.{Tri, mapTri}
-use Rattle.trimesh.specs.Slices.{triOf, vecOf}
+use Rattle.trimesh.specs.Slices.{triOf, vecOf, vertexAt}
 use Rattle.balance.specs.Buffer.{flat, tris}
 
 -- the first n triples of a list, each replaced, and the rest as it was
@@ -21,10 +21,6 @@ tripleAt l i d = (getD l (3 * i) d, getD l (3 * i + 1) d, getD l (3 * i + 2) d)
 -- triple i replaced
 abbrev pub putTriple : {P : Type 0} → List P → ℕ → Tri P → List P
 putTriple l i t = set (set (set l (3 * i) (t .0)) (3 * i + 1) (t .1)) (3 * i + 2) (t .2)
-
--- vertex i of a slice
-abbrev pub vertexAt : List Float → ℕ → Vec3
-vertexAt l i = vecOf (tripleAt l i nan)
 
 -- the three floats of a vertex, after a matrix
 abbrev pub movedTriple : Mat4 → Tri Float → Tri Float

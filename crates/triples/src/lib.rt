@@ -2,8 +2,8 @@
 ghost use mathlib.Core.Path.{_≡_};
 ghost use Prim.Native.Nat.{_+_, _*_, _≤_};
 ghost use lib.ListN.{length};
-ghost use Rattle.trimesh.specs.Slices.{triOf};
-ghost use Rattle.triples.specs.Triples.{putTriple, vertexAt};
+ghost use Rattle.trimesh.specs.Slices.{triOf, vertexAt};
+ghost use Rattle.triples.specs.Triples.{putTriple};
 use math::Vec3;
 
 // Vertex i.

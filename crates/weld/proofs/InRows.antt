@@ -6,7 +6,8 @@ use Prim.Native.Nat.{ℕ, _-_, _<_}
 use native.Mathlib.Omega.{arith}
 use lib.Ieee.{Float}
 use Rattle.math.specs.declared.Vec3.{Vec3}
-use Rattle.stored.specs.Points.{Clean, vertexAt}
+use Rattle.trimesh.specs.Slices.{vertexAt}
+use Rattle.stored.specs.Points.{Clean}
 use Rattle.chain.specs.Hash.{Stored}
 use Rattle.stored.proofs.Clean.{same-data}
 use Rattle.chain.proofs.Chains.{not-both}

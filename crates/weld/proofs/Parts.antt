@@ -13,7 +13,8 @@ use Rattle.rows.specs.declared.Row.{Row}
 use Rattle.weld.specs.declared.Welder.{Welder}
 use Rattle.chain.specs.Hash.{latest, Stored, Chained}
 use Rattle.chain.proofs.Chains.{agree-same, agree-as, chained-part}
-use Rattle.weld.specs.Rep.{limit, placesOf, held, indexed, Holds, Over, Begun, Parted}
+use Rattle.slices.specs.Every.{wholePlaces, placesOf}
+use Rattle.weld.specs.Rep.{held, indexed, Holds, Over, Begun, Parted}
 use Rattle.weld.proofs.Places.{places-fit}
 
 zero-stored : (vs : List Float) (places : ℕ) → 3 * places ≤ length vs → Stored vs places 0 0
@@ -36,15 +37,15 @@ same-either : (b : Bool) (n : ℕ) → n ≡ cond b n n
 same-either true n = refl
 same-either false n = refl
 
-pub begun : (vs : List Float) (ws : List ℕ) (n : ℕ) → n ≡ min (length vs / 3) limit → 2 * (length vs / 3) ≤ length ws → ((k : ℕ) → getD ws k 0 ≡ 0) → (r : Row) (o : Bool)
+pub begun : (vs : List Float) (ws : List ℕ) (n : ℕ) → n ≡ placesOf vs → 2 * (length vs / 3) ≤ length ws → ((k : ℕ) → getD ws k 0 ≡ 0) → (r : Row) (o : Bool)
     → Begun (record { base = 0; count = 0; places = n; faces = 0; near = r .near; finite = true; room = true; ordered = o; rising = r .rising }) vs ws
-unfolding placesOf append
+unfolding wholePlaces append
 begun vs ws n e b z r o =
     record {
       ready = λ ts. record {
         linked = record {
           stored = zero-stored vs n (omega (arith, places-fit vs));
-          chained = subst (Chained vs ws n 0) (same-either o 0) (zero-chains vs ws n (omega (arith, min-le-left (length vs / 3) limit)) z);
+          chained = subst (Chained vs ws n 0) (same-either o 0) (zero-chains vs ws n (omega (arith, min-le-left (length vs / 3) 4294967295)) z);
           places = e;
           rows = λ q m a k. absurd (not-suc-le-zero k);
         };

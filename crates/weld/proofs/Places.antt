@@ -8,9 +8,8 @@ use lib.ListN.{length, getD, set, take, drop, length-append}
 use lib.Seq.{getD-take, sets-eq, take-at, length-take-le}
 use lib.Ieee.{Float, nan}
 use Rattle.math.specs.declared.Vec3.{Vec3}
-use Rattle.trimesh.specs.Slices.{flatV}
-use Rattle.stored.specs.Points.{vertexAt}
-use Rattle.weld.specs.Rep.{limit, placesOf}
+use Rattle.trimesh.specs.Slices.{flatV, vertexAt}
+use Rattle.slices.specs.Every.{wholePlaces, placesOf}
 
 module _ {A : Type 0} where
   -- the front of a list after three stores at its end
@@ -57,13 +56,13 @@ flatV-at (v ∷ vs) (suc k) d h = step ∙ flatV-at vs k d (le-of-suc-le-suc h)
 -- ---- whole places
 module _ {A : Type 0} (l : List A) where
   pub places-fit : 3 * placesOf l ≤ length l
-  unfolding placesOf
-  places-fit = omega (arith, min-le-left (length l / 3) limit)
+  unfolding wholePlaces
+  places-fit = omega (arith, min-le-left (length l / 3) 4294967295)
 
-  pub places-limit : placesOf l ≤ limit
-  unfolding placesOf
-  places-limit = min-le-right (length l / 3) limit
+  pub places-limit : placesOf l ≤ 4294967295
+  unfolding wholePlaces
+  places-limit = min-le-right (length l / 3) 4294967295
 
 pub places-long : {A : Type 0} (l k : List A) → length l ≡ length k → placesOf l ≡ placesOf k
-unfolding placesOf
-places-long l k e = ap (λ (n : ℕ). min (n / 3) limit) e
+unfolding wholePlaces
+places-long l k e = ap wholePlaces e

@@ -3,27 +3,19 @@ use mathlib.Core.Path.{_≡_}
 use mathlib.Core.Bool.{true, false, _&&_, cond}
 use mathlib.Core.List.{List}
 use mathlib.Core.Logic.{_⊎_}
-use Prim.Native.Nat.{ℕ, _-_, _*_, _/_, _≤_, _<_, min}
+use Prim.Native.Nat.{ℕ, _-_, _*_, _≤_, _<_}
 use lib.ListN.{length, take}
 use lib.Ieee.{Float}
 use Rattle.math.specs.declared.Vec3.{Vec3}
 use Rattle.balance.specs.Soup.{Tri}
 use Rattle.balance.specs.Buffer.{flat}
 use Rattle.trimesh.specs.Mesh.{Mesh, noMesh, append, weldSoup, everyFinite}
-use Rattle.trimesh.specs.Slices.{flatV}
+use Rattle.trimesh.specs.Slices.{flatV, vertexAt}
 use Rattle.weld.specs.declared.Welder.{Welder}
-use Rattle.stored.specs.Points.{vertexAt}
+use Rattle.slices.specs.Every.{placesOf}
 use Rattle.chain.specs.Hash.{Stored, Chained}
 use Rattle.rows.specs.declared.Row.{Row}
 use Rattle.rows.specs.Rows.{within}
-
--- document 01, refusal 7: no more than this many vertices, nor triangles
-abbrev pub limit : ℕ
-limit = 4294967295
-
--- the whole places of a slice, three entries each, at most the limit
-unfoldable pub placesOf : {A : Type 0} → List A → ℕ
-placesOf l = min (length l / 3) limit
 
 -- the state and the three lent slices
 pub record Held : Type 0 where

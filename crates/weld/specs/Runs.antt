@@ -12,7 +12,8 @@ use Rattle.balance.specs.Soup.{Tri}
 use Rattle.trimesh.specs.Mesh.{Mesh, noMesh, append, weldSoup, fromSoup, everyFinite}
 use Rattle.trimesh.specs.WeldLaws.{weldSoup-append, everyFinite-append, none-append}
 use Rattle.weld.specs.declared.Welder.{Welder}
-use Rattle.weld.specs.Rep.{Held, held, placesOf, Ready, Holds, Over, Rep, Runs, Begun}
+use Rattle.slices.specs.Every.{placesOf}
+use Rattle.weld.specs.Rep.{Held, held, Ready, Holds, Over, Rep, Runs, Begun}
 
 and-true : (a : Bool) → a ≡ (a && true)
 and-true true = refl

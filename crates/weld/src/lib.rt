@@ -12,13 +12,11 @@ mod states;
 pub use foresight::foresee;
 pub use foresight::unknown;
 use math::Vec3;
-pub use point::is_finite;
 pub use point::plus_zero;
 pub use states::full;
 pub use states::grown;
 pub use states::settled;
 pub use states::stopped;
-pub use states::whole_places;
 pub use states::with_face;
 
 // The state of the welder. `base` vertices belong to the parts before this one, `count` vertices and `faces` triangles are
@@ -52,7 +50,7 @@ pub fn begin(vertices: &[f64], work: &[u32]) -> Welder
     Welder {
         base: 0,
         count: 0,
-        places: states::whole_places(vertices.len()),
+        places: slices::whole_places(vertices.len()),
         faces: 0,
         near: 0.0,
         finite: true,

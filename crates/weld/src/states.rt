@@ -1,22 +1,9 @@
-// The whole places of a slice, and the states of the welder after a step.
+// The states of the welder after a step.
 ghost use mathlib.Core.Path.{_≡_};
-ghost use Prim.Native.Nat.{_/_, _<_, _^_, min};
-ghost use Rattle.weld.specs.Rep.{limit};
+ghost use Prim.Native.Nat.{_<_, _^_};
 ghost use Rattle.weld.specs.States.{unfinite, shut, more, moreFaces, settled as settledState};
 use crate::Foreseen;
 use crate::Welder;
-
-// The whole places of a slice of this length, three entries each, at most 4,294,967,295.
-pub fn whole_places(len: usize) -> usize
-    ensures { λ r. ⌜ r ≡ min (len / 3) limit ⌝ }
-{
-    let whole = len / 3;
-    if whole < 4294967295 {
-        whole
-    } else {
-        4294967295
-    }
-}
 
 // The state after a point that is not finite.
 pub fn stopped(w: Welder) -> Welder

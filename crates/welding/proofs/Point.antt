@@ -12,12 +12,12 @@ use lib.Ieee.{Float}
 use Rattle.math.specs.declared.Vec3.{Vec3}
 use Rattle.balance.specs.Soup.{Tri, mapTri}
 use Rattle.trimesh.specs.Mesh.{Mesh, samePoint, firstSight, append}
-use Rattle.trimesh.specs.Slices.{flatV}
+use Rattle.trimesh.specs.Slices.{flatV, vertexAt}
 use Rattle.trimesh.specs.WeldLaws.{sight-at, sight-none, with-seen, with-new, with-longer, flatV-append}
 use Rattle.chain.specs.declared.Found.the-variants.{Missing}
 use Rattle.weld.specs.declared.Welder.{Welder}
 use Rattle.weld.specs.declared.Foreseen.{Foreseen}
-use Rattle.stored.specs.Points.{Clean, vertexAt, placed}
+use Rattle.stored.specs.Points.{Clean, placed}
 use Rattle.chain.specs.Hash.{bucketOf, Chained, linkedIn, FirstAt, Sought}
 use Rattle.rows.specs.Rows.{within}
 use Rattle.weld.specs.Rep.{Held, held, InRow, indexed, Linked, Holds, Over, Rep}

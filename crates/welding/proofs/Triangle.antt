@@ -12,10 +12,12 @@ use lib.Ieee.{Float}
 use Rattle.math.specs.declared.Vec3.{Vec3}
 use Rattle.balance.specs.Soup.{Tri, mapTri}
 use Rattle.balance.specs.Buffer.{flat-append}
-use Rattle.trimesh.specs.Mesh.{Mesh, finiteV, plusZeroV, distinct, append, weldTriangle, weldSoup, everyFinite}
+use Rattle.math.specs.Vec.{vFinite}
+use Rattle.trimesh.specs.Mesh.{Mesh, plusZeroV, distinct, append, weldTriangle, weldSoup, everyFinite}
 use Rattle.weld.specs.declared.Welder.{Welder}
 use Rattle.welding.specs.declared.Welded.{Welded}
-use Rattle.weld.specs.Rep.{Held, held, placesOf, rowOf, Linked, Ready, Holds, Over, Rep, Runs}
+use Rattle.slices.specs.Every.{placesOf}
+use Rattle.weld.specs.Rep.{Held, held, rowOf, Linked, Ready, Holds, Over, Rep, Runs}
 use Rattle.weld.specs.States.{unfinite, shut, moreFaces}
 use Rattle.welding.specs.Steps.{withTriangle, weldPoints, PointRuns, TriangleRuns, PointsRun}
 use Rattle.weld.proofs.Places.{take-three, places-fit, places-long}
@@ -206,7 +208,7 @@ and-false true y e = sym e
 and-false false y e = refl
 
 -- a point is not finite: nothing is written
-pub triangle-stops : (w : Welder) (vs : List Float) (ts ws : List ℕ) (a b c : Vec3) → Ready (held w vs ts ws) → (finiteV a ≡ false) ⊎ ((finiteV b ≡ false) ⊎ (finiteV c ≡ false))
+pub triangle-stops : (w : Welder) (vs : List Float) (ts ws : List ℕ) (a b c : Vec3) → Ready (held w vs ts ws) → (vFinite a ≡ false) ⊎ ((vFinite b ≡ false) ⊎ (vFinite c ≡ false))
     → Runs ((a, b, c) ∷ []) (held w vs ts ws) (held (unfinite w) vs ts ws)
 unfolding everyFinite
 triangle-stops w vs ts ws a b c R n =
@@ -215,7 +217,7 @@ triangle-stops w vs ts ws a b c R n =
       vlong = refl;
       tlong = refl;
       wlong = refl;
-      finite = and-false (w .finite) (everyFinite ((a, b, c) ∷ [])) (unfinished (finiteV a) (finiteV b) (finiteV c) n);
+      finite = and-false (w .finite) (everyFinite ((a, b, c) ∷ [])) (unfinished (vFinite a) (vFinite b) (vFinite c) n);
       rep = λ e. absurd (not-both false e refl);
     }
 
@@ -224,7 +226,7 @@ all-finite true x y z p q r = sym (λ i. p i && q i && r i && true)
 all-finite false x y z p q r = refl
 
 -- all points are finite
-pub triangle-runs : (a b c a′ b′ c′ : Vec3) (h k : Held) → finiteV a ≡ true → finiteV b ≡ true → finiteV c ≡ true → a′ ≡ plusZeroV a → b′ ≡ plusZeroV b → c′ ≡ plusZeroV c
+pub triangle-runs : (a b c a′ b′ c′ : Vec3) (h k : Held) → vFinite a ≡ true → vFinite b ≡ true → vFinite c ≡ true → a′ ≡ plusZeroV a → b′ ≡ plusZeroV b → c′ ≡ plusZeroV c
     → PointsRun a′ b′ c′ h k → Runs ((a, b, c) ∷ []) h k
 unfolding everyFinite weldSoup weldTriangle weldPoints
 triangle-runs a b c a′ b′ c′ h k p q r ea eb ec P =
@@ -233,6 +235,6 @@ triangle-runs a b c a′ b′ c′ h k p q r ea eb ec P =
       vlong = P .vlong;
       tlong = P .tlong;
       wlong = P .wlong;
-      finite = P .finite ∙ all-finite (h .st .finite) (finiteV a) (finiteV b) (finiteV c) p q r;
+      finite = P .finite ∙ all-finite (h .st .finite) (vFinite a) (vFinite b) (vFinite c) p q r;
       rep = λ e D S Q. subst (λ (M : Mesh). Rep D M k) (λ i. weldPoints S (ea i) (eb i) (ec i)) (P .rep D S Q);
     }

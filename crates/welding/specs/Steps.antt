@@ -10,7 +10,8 @@ use Rattle.balance.specs.Soup.{Tri}
 use Rattle.trimesh.specs.Mesh.{Mesh, firstSight, withPoint, distinct}
 use Rattle.chain.specs.Hash.{FirstAt}
 use Rattle.weld.specs.declared.Welder.{Welder}
-use Rattle.weld.specs.Rep.{Held, held, placesOf, rowOf, Linked, Ready, Rep}
+use Rattle.slices.specs.Every.{placesOf}
+use Rattle.weld.specs.Rep.{Held, held, rowOf, Linked, Ready, Rep}
 use Rattle.welding.specs.declared.Welded.{Welded}
 
 -- the mesh after p was looked up

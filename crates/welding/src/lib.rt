@@ -36,13 +36,13 @@ pub fn weld_triangle(
     if !finite {
         return w;
     }
-    if !weld::is_finite(a) {
+    if !math::is_finite(a) {
         return weld::stopped(w);
     }
-    if !weld::is_finite(b) {
+    if !math::is_finite(b) {
         return weld::stopped(w);
     }
-    if !weld::is_finite(c) {
+    if !math::is_finite(c) {
         return weld::stopped(w);
     }
     steps::weld_points(

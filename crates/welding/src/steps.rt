@@ -1,7 +1,8 @@
 // The steps of one turn of from_soup's loop, for points that came out of `+ 0.0`.
 ghost use Prim.Native.Nat.{_≤_, _<_, _^_};
 ghost use Rattle.stored.specs.Points.{Clean};
-ghost use Rattle.weld.specs.Rep.{held, placesOf, Linked, Ready};
+ghost use Rattle.slices.specs.Every.{placesOf};
+ghost use Rattle.weld.specs.Rep.{held, Linked, Ready};
 ghost use Rattle.welding.specs.Steps.{PointRuns, TriangleRuns, PointsRun};
 use crate::Welded;
 use crate::search;
@@ -105,7 +106,7 @@ pub fn add_triangle(triangles: &mut [u32], w: Welder, a: usize, b: usize, c: usi
     if a == c {
         return w;
     }
-    if weld::whole_places(triangles.len()) <= faces {
+    if slices::whole_places(triangles.len()) <= faces {
         return weld::full(w);
     }
     let at = 3 * faces;

@@ -8,10 +8,9 @@ use lib.ListN.{length, take, drop, length-map}
 use lib.Seq.{length-take-le}
 use Rattle.math.specs.Vec.{vFinite}
 use Rattle.matrix.specs.Mat.{transformPoint}
-use Rattle.trimesh.specs.Slices.{points}
+use Rattle.trimesh.specs.Slices.{points, vertexAt}
 use Rattle.trimesh.specs.SliceLaws.{length-points}
 use Rattle.slices.specs.Every.{every}
-use Rattle.triples.specs.Triples.{vertexAt}
 use Rattle.affine.specs.Affine.{affinePoint}
 use Rattle.affine.proofs.AffineLaws.{affine-vertex}
 use Rattle.slices.proofs.Next.{next-map, every-turn, every-done}

@@ -6,10 +6,9 @@ use lib.ListN.{length, take, drop}
 use lib.Seq.{length-take-le}
 use Rattle.math.specs.declared.BoundingBox.{BoundingBox}
 use Rattle.math.specs.Box.{emptyBox}
-use Rattle.trimesh.specs.Slices.{points}
+use Rattle.trimesh.specs.Slices.{points, vertexAt}
 use Rattle.trimesh.specs.SliceLaws.{length-points}
 use Rattle.trimesh.specs.Measures.{including}
-use Rattle.triples.specs.Triples.{vertexAt}
 use Rattle.triples.proofs.NextTriples.{next-points}
 use Rattle.extents.proofs.Including.{include-turn, include-ended}
 use native.Mathlib.Omega.{arith}

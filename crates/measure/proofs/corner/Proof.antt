@@ -3,7 +3,7 @@ use denote.Ref.{now}
 use mathlib.Core.Path.{ap, _∙_}
 use Rattle.math.specs.declared.Vec3.{Vec3}
 use Prim.Native.Nat.{ℕ}
-use Rattle.triples.specs.Triples.{vertexAt}
+use Rattle.trimesh.specs.Slices.{vertexAt}
 use borrow.Author.Needs.{needs}
 use Rattle.measure.proofs.corner.Statement.{statement}
 use Rattle.measure.proofs.corner.Tie as tie

@@ -3,7 +3,7 @@ use borrow.Author.Needs.{needs}
 use mathlib.Core.Path.{_≡_, sym, _∙_}
 use mathlib.Core.Bool.{Bool, true, false, _&&_}
 use mathlib.Core.Logic.{inl, inr}
-use Rattle.trimesh.specs.Mesh.{finiteV}
+use Rattle.math.specs.Vec.{vFinite}
 use Rattle.quads.proofs.Quads.{one-false}
 use Rattle.quads.proofs.are_finite.Statement.{statement}
 use Rattle.quads.proofs.are_finite.Tie as tie
@@ -36,12 +36,12 @@ returns c =
 returns-2 : tie.Need-returns-2
 returns-2 c =
     let s = c .before .before .before .before .before .before in
-    sym (one-false (finiteV (s .args .a)) (finiteV (s .args .b)) (finiteV (s .args .c)) (finiteV (s .args .d)) (inr (sym (c .before .is-finite3 .ensures) ∙ c .if3 .left)))
+    sym (one-false (vFinite (s .args .a)) (vFinite (s .args .b)) (vFinite (s .args .c)) (vFinite (s .args .d)) (inr (sym (c .before .is-finite3 .ensures) ∙ c .if3 .left)))
 
 returns-3 : tie.Need-returns-3
 returns-3 c =
     let s = c .before .before .before .before in
-    sym (one-false (finiteV (s .args .a)) (finiteV (s .args .b)) (finiteV (s .args .c)) (finiteV (s .args .d)) (inl (sym (c .before .is-finite2 .ensures) ∙ c .if2 .left)))
+    sym (one-false (vFinite (s .args .a)) (vFinite (s .args .b)) (vFinite (s .args .c)) (vFinite (s .args .d)) (inl (sym (c .before .is-finite2 .ensures) ∙ c .if2 .left)))
 
 returns-4 : tie.Need-returns-4
 returns-4 c = not-first _ _ _ _ (sym (c .before .is-finite .ensures) ∙ c .if1 .left)

@@ -4,7 +4,7 @@ use borrow.Author.Tests.{not-true, not-false}
 use mathlib.Core.Path.{_≡_, refl, sym, ap, _∙_}
 use mathlib.Core.Bool.{Bool, true, false, _&&_}
 use denote.Ref.{now}
-use Rattle.trimesh.specs.Mesh.{finiteV}
+use Rattle.math.specs.Vec.{vFinite}
 use Rattle.weld.specs.declared.Welder.{Welder}
 use Rattle.weld.specs.Rep.{held}
 use Rattle.weld.specs.Runs.{runs-stopped}
@@ -53,7 +53,7 @@ weld-last-requires c κs =
     let s = c .before .before .before .before .before .before .before .before .before .before .before in
     let f = not-false _ (c .before .before .before .before .before .before .before .if1 .left) in
     let r = c .before .before .before .before .before .before .if2 .taken in
-    let k = c .before .before .before .before .are-at .ensures (c .before .before .before .if3 .taken) in
+    let k = c .before .before .before .before .are-at .ensures .1 (c .before .before .before .if3 .taken) in
     let small = known-small (s .args .w) (now (s .args .vertices)) (now (s .args .work)) in (
       s .pre,
       (
@@ -77,7 +77,7 @@ same-length-3 c = search needs
 returns-2 : tie.Need-returns-2
 returns-2 c =
     let s = c .before .before .before .before .before .before .before .before .before .before .before .before .before .before .before .before .before .before .before in
-    let k = c .before .before .before .before .before .before .before .before .before .before .before .before .are-at .ensures (c .before .before .before .before .before .before .before .before .before .before .before .if3 .taken) in
+    let k = c .before .before .before .before .before .before .before .before .before .before .before .before .are-at .ensures .1 (c .before .before .before .before .before .before .before .before .before .before .before .if3 .taken) in
     c .before .before .before .before .before .before .before .weld-last .ensures (s .args .a) (s .args .b) (s .args .d) (k .0) (k .1) (k .2)
 
 are-finite-requires : tie.Need-are-finite-requires
@@ -100,22 +100,22 @@ returns-3 c =
 plus-zero-requires : tie.Need-plus-zero-requires
 plus-zero-requires c κs =
     let s = c .before .before .before .before .before .before .before .before .before .before in
-    all-first (finiteV (s .args .a)) (finiteV (s .args .b)) (finiteV (s .args .c)) (finiteV (s .args .d)) (sym (c .before .before .before .before .are-finite .ensures) ∙ not-false _ (c .before .before .before .if4 .left))
+    all-first (vFinite (s .args .a)) (vFinite (s .args .b)) (vFinite (s .args .c)) (vFinite (s .args .d)) (sym (c .before .before .before .before .are-finite .ensures) ∙ not-false _ (c .before .before .before .if4 .left))
 
 plus-zero-requires-2 : tie.Need-plus-zero-requires-2
 plus-zero-requires-2 c κs =
     let s = c .before .before .before .before .before .before .before .before .before .before .before in
-    all-second (finiteV (s .args .a)) (finiteV (s .args .b)) (finiteV (s .args .c)) (finiteV (s .args .d)) (sym (c .before .before .before .before .before .are-finite .ensures) ∙ not-false _ (c .before .before .before .before .if4 .left))
+    all-second (vFinite (s .args .a)) (vFinite (s .args .b)) (vFinite (s .args .c)) (vFinite (s .args .d)) (sym (c .before .before .before .before .before .are-finite .ensures) ∙ not-false _ (c .before .before .before .before .if4 .left))
 
 plus-zero-requires-3 : tie.Need-plus-zero-requires-3
 plus-zero-requires-3 c κs =
     let s = c .before .before .before .before .before .before .before .before .before .before .before .before in
-    all-third (finiteV (s .args .a)) (finiteV (s .args .b)) (finiteV (s .args .c)) (finiteV (s .args .d)) (sym (c .before .before .before .before .before .before .are-finite .ensures) ∙ not-false _ (c .before .before .before .before .before .if4 .left))
+    all-third (vFinite (s .args .a)) (vFinite (s .args .b)) (vFinite (s .args .c)) (vFinite (s .args .d)) (sym (c .before .before .before .before .before .before .are-finite .ensures) ∙ not-false _ (c .before .before .before .before .before .if4 .left))
 
 plus-zero-requires-4 : tie.Need-plus-zero-requires-4
 plus-zero-requires-4 c κs =
     let s = c .before .before .before .before .before .before .before .before .before .before .before .before .before in
-    all-last (finiteV (s .args .a)) (finiteV (s .args .b)) (finiteV (s .args .c)) (finiteV (s .args .d)) (sym (c .before .before .before .before .before .before .before .are-finite .ensures) ∙ not-false _ (c .before .before .before .before .before .before .if4 .left))
+    all-last (vFinite (s .args .a)) (vFinite (s .args .b)) (vFinite (s .args .c)) (vFinite (s .args .d)) (sym (c .before .before .before .before .before .before .before .are-finite .ensures) ∙ not-false _ (c .before .before .before .before .before .before .if4 .left))
 
 weld-both-requires : tie.Need-weld-both-requires
 weld-both-requires c κs = search needs
@@ -132,10 +132,10 @@ same-length-6 c = search needs
 returns-4 : tie.Need-returns-4
 returns-4 c =
     let s = c .before .before .before .before .before .before .before .before .before .before .before .before .before .before .before .before .before .before .before .before .before in
-    let a = finiteV (s .args .a) in
-    let b = finiteV (s .args .b) in
-    let g = finiteV (s .args .c) in
-    let d = finiteV (s .args .d) in
+    let a = vFinite (s .args .a) in
+    let b = vFinite (s .args .b) in
+    let g = vFinite (s .args .c) in
+    let d = vFinite (s .args .d) in
     let f = sym (c .before .before .before .before .before .before .before .before .before .before .before .before .before .before .before .are-finite .ensures) ∙ not-false _ (c .before .before .before .before .before .before .before .before .before .before .before .before .before .before .if4 .left) in
     quad-numbered (s .args .a) (s .args .b) (s .args .c) (s .args .d) _ _ _ _ _ (c .before .before .before .before .before .before .weld-both .result) _ _ _ (all-first a b g d f) (all-second a b g d f) (all-third a b g d f)
     (all-last a b g d f) (c .before .before .before .before .before .before .before .before .before .before .plus-zero .ensures .0) (c .before .before .before .before .before .before .before .before .before .plus-zero2 .ensures .0) (c .before .before .before .before .before .before .before .before .plus-zero3 .ensures .0) (c .before .before .before .before .before .before .before .plus-zero4 .ensures .0)

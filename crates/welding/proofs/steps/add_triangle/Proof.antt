@@ -5,7 +5,7 @@ use mathlib.Core.Logic.{inl, inr}
 use native.Mathlib.Omega.{arith}
 use lib.ListN.{length-set}
 use denote.Ref.{now}
-use Rattle.weld.specs.Rep.{placesOf}
+use Rattle.slices.specs.Every.{wholePlaces, placesOf}
 use Rattle.welding.proofs.Triangle.{triangle-shut, triangle-flat, triangle-full, triangle-new}
 use Rattle.welding.proofs.steps.add_triangle.Statement.{statement}
 use Rattle.welding.proofs.steps.add_triangle.Tie as tie
@@ -37,7 +37,7 @@ full-requires : tie.Need-full-requires
 full-requires c κs = search needs
 
 returns-5 : tie.Need-returns-5
-unfolding placesOf
+unfolding wholePlaces
 returns-5 c =
     let s = c .before .before .before .before .before .before .before .before in
     rw (c .full .ensures)
@@ -46,27 +46,33 @@ returns-5 c =
     (omega (arith, c .before .if5 .taken, c .before .before .whole-places .ensures)))
 
 mul-at : tie.Need-mul-at
+unfolding wholePlaces
 mul-at c = search needs
 
 cast-triangles : tie.Need-cast-triangles
 cast-triangles c = search needs
 
 mul-triangles : tie.Need-mul-triangles
+unfolding wholePlaces
 mul-triangles c = search needs
 
 slice-write-triangles : tie.Need-slice-write-triangles
+unfolding wholePlaces
 slice-write-triangles c = search needs
 
 cast-triangles-2 : tie.Need-cast-triangles-2
 cast-triangles-2 c = search needs
 
 add-triangles : tie.Need-add-triangles
+unfolding wholePlaces
 add-triangles c = search needs
 
 mul-triangles-2 : tie.Need-mul-triangles-2
+unfolding wholePlaces
 mul-triangles-2 c = search needs
 
 slice-write-triangles-2 : tie.Need-slice-write-triangles-2
+unfolding wholePlaces
 slice-write-triangles-2 c =
     simp length-set (omega arith)
 
@@ -74,23 +80,27 @@ cast-triangles-3 : tie.Need-cast-triangles-3
 cast-triangles-3 c = search needs
 
 add-triangles-2 : tie.Need-add-triangles-2
+unfolding wholePlaces
 add-triangles-2 c = search needs
 
 mul-triangles-3 : tie.Need-mul-triangles-3
+unfolding wholePlaces
 mul-triangles-3 c = search needs
 
 slice-write-triangles-3 : tie.Need-slice-write-triangles-3
+unfolding wholePlaces
 slice-write-triangles-3 c =
     simp length-set (omega arith)
 
 with-face-requires : tie.Need-with-face-requires
+unfolding wholePlaces
 with-face-requires c κs = search needs
 
 same-length : tie.Need-same-length
 same-length c = search needs
 
 returns-6 : tie.Need-returns-6
-unfolding placesOf
+unfolding wholePlaces
 returns-6 c =
     let s = c .before .before .before .before .before .before .before .before in
     rw (c .with-face .ensures)

@@ -1,7 +1,9 @@
 -- `welding::steps::weld_point` meets its contract: a guess that fits is the number that the look-up would give. Assumes nothing.
 use borrow.Author.Needs.{needs}
 use borrow.Author.Tests.{not-true, not-false}
+use mathlib.Core.Path.{sym, _∙_}
 use denote.Ref.{now}
+use Rattle.stored.proofs.At.{at-yes}
 use Rattle.chain.proofs.Chains.{first-at}
 use Rattle.welding.proofs.Point.{point-shut, point-at}
 use Rattle.welding.proofs.steps.weld_point.Statement.{statement}
@@ -21,7 +23,7 @@ same-length c = search needs
 returns-2 : tie.Need-returns-2
 returns-2 c =
     let s = c .before .before .before .before .before .before in
-    let e = c .before .is-at .ensures (c .if2 .taken) in
+    let e = at-yes (now (s .args .vertices)) (s .args .w .base) (s .args .w .count) (s .args .p) (s .args .guess) (sym (c .before .is-at .ensures) ∙ c .if2 .taken) in
     point-at (s .args .w) (now (s .args .vertices)) (now (s .args .work)) (s .pre .0) (s .args .p) (s .args .guess) (not-false _ (c .before .before .before .if1 .left))
     (first-at (now (s .args .vertices)) (s .args .w .places) (s .args .w .base) (s .args .w .count) (s .pre .0 .stored) (s .args .p)
     (s .pre .1) (s .args .guess) (e .0) (e .1) (e .2))
