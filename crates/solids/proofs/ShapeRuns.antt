@@ -9,14 +9,13 @@ use denote.Enum.Declared.{tagOf}
 use borrow.Author.Tests.{lt-ltb, le-ltb, eq-eqb, ne-eqb}
 use lib.Dec.{ltb, eqb}
 use lib.Ieee.{Float, binary64, add}
-use Rattle.ieee.specs.Number.{plusZero, minimum, maximum}
 use Rattle.math.specs.declared.Vec3.{Vec3}
 use Rattle.weld.specs.declared.Welder.{Welder}
 use Rattle.weld.specs.Rep.{Held, held, Ready, Runs, Parted}
 use Rattle.weld.specs.Runs.{runs-none, runs-as}
 use Rattle.soups.specs.Coords.{toCartesian}
 use Rattle.soups.specs.Sphere.{sphere, sphereSoup}
-use Rattle.soups.specs.Cylinder.{cylinder, cylinderSoup, innerRadius, outerRadius, cylindricalShellSoup}
+use Rattle.soups.specs.Cylinder.{cylinder}
 use Rattle.soups.specs.Polygons.{lowEnd, highEnd, extrudedPolygon, polygonSoup, linPolySoup, rotpoly, rotPolySoup, swaps, radialAxis}
 use Rattle.outline.specs.declared.Axes.{Axes}
 use Rattle.outline.specs.Axes.{planeAxes}
@@ -28,26 +27,17 @@ use Rattle.parts.specs.Parts.{PartsRun}
 use Rattle.parts.specs.PartsLaws.{parts-one}
 use Rattle.outcome.specs.Solid.{partsOf}
 use Rattle.solids.specs.Limits.{Listed}
-use Rattle.solids.specs.Soups.{solidSoup, outlineSoup}
+use Rattle.solids.specs.Soups.{solidSoup, tubeSoup, outlineSoup}
 
 pub sphere-soup : (cylindrical : Bool) (center c : Vec3) (radius : Float) (segments rings : ℕ) (h k : Held) → c ≡ toCartesian cylindrical center
     → Runs (sphere c radius segments rings false) h k → Runs (sphereSoup cylindrical center radius segments rings) h k
 unfolding sphereSoup
 sphere-soup cylindrical center c radius segments rings h k e R = runs-as (ap (λ (v : Vec3). sphere v radius segments rings false) e) R
 
-pub cylinder-soup : (cylindrical : Bool) (start stop a b : Vec3) (radius : Float) (segments : ℕ) (h k : Held) → a ≡ toCartesian cylindrical start → b ≡ toCartesian cylindrical stop
-    → Runs (cylinder a b plusZero radius segments) h k → Runs (cylinderSoup cylindrical start stop radius segments) h k
-unfolding cylinderSoup
-cylinder-soup cylindrical start stop a b radius segments h k e f R =
-    runs-as (ap (λ (v : Vec3). cylinder v b plusZero radius segments) e ∙ ap (λ (v : Vec3). cylinder (toCartesian cylindrical start) v plusZero radius segments) f) R
-
-pub shell-soup : (cylindrical : Bool) (start stop a b : Vec3) (radius width : Float) (segments : ℕ) (h k : Held) → a ≡ toCartesian cylindrical start → b ≡ toCartesian cylindrical stop
-    → Runs (cylinder a b (innerRadius radius width) (outerRadius radius width) segments) h k → Runs (cylindricalShellSoup cylindrical start stop radius width segments) h k
-unfolding cylindricalShellSoup
-shell-soup cylindrical start stop a b radius width segments h k e f R =
-    runs-as
-    (ap (λ (v : Vec3). cylinder v b (innerRadius radius width) (outerRadius radius width) segments) e
-    ∙ ap (λ (v : Vec3). cylinder (toCartesian cylindrical start) v (innerRadius radius width) (outerRadius radius width) segments) f) R
+pub between-runs : (cylindrical : Bool) (start stop a b : Vec3) (inner outer : Float) (segments : ℕ) (h k : Held) → a ≡ toCartesian cylindrical start → b ≡ toCartesian cylindrical stop
+    → Runs (cylinder a b inner outer segments) h k → Runs (cylinder (toCartesian cylindrical start) (toCartesian cylindrical stop) inner outer segments) h k
+between-runs cylindrical start stop a b inner outer segments h k e f R =
+    runs-as (ap (λ (v : Vec3). cylinder v b inner outer segments) e ∙ ap (λ (v : Vec3). cylinder (toCartesian cylindrical start) v inner outer segments) f) R
 
 pub polygon-soup : (normal n : ℕ) (v : List Float) (elevation : Float) (h k : Held) → n ≡ min normal 2 → Runs (extrudedPolygon n v elevation elevation) h k → Runs (polygonSoup
     normal v elevation) h k
@@ -100,6 +90,9 @@ shape-as cylindrical s t v o h k e R = subst (λ (x : Shape). PartsRun (partsOf 
 pub solid-as : (cylindrical : Bool) (s t : Shape) (o : TessellationOptions) (h k : Held) → s ≡ t → Runs (solidSoup cylindrical t o) h k → Runs (solidSoup cylindrical s o) h k
 solid-as cylindrical s t o h k e R = subst (λ (x : Shape). Runs (solidSoup cylindrical x o) h k) (sym e) R
 
+pub tube-as : (cylindrical : Bool) (s t : Shape) (n : ℕ) (h k : Held) → s ≡ t → Runs (tubeSoup cylindrical t n) h k → Runs (tubeSoup cylindrical s n) h k
+tube-as cylindrical s t n h k e R = subst (λ (x : Shape). Runs (tubeSoup cylindrical x n) h k) (sym e) R
+
 pub outline-as : (s t : Shape) (v : List Float) (n : ℕ) (h k : Held) → s ≡ t → Runs (outlineSoup t v n) h k → Runs (outlineSoup s v n) h k
 outline-as s t v n h k e R = subst (λ (x : Shape). Runs (outlineSoup x v n) h k) (sym e) R
 
@@ -107,17 +100,29 @@ pub listed-as : (s t : Shape) (v : List Float) → s ≡ t → Listed s v → Li
 listed-as s t v e l = subst (λ (x : Shape). Listed x v) e l
 
 -- a shape of which the case is one of several: the keys are the numbers of the variants
-pub solid-none : (s : Shape) (cylindrical : Bool) (o : TessellationOptions) (h : Held) → Ready h → OneOf (1 ∷ 6 ∷ 7 ∷ 8 ∷ 9 ∷ []) (tagOf ofShape.the-type s) → Runs (solidSoup cylindrical s o) h h
-solid-none (Box start stop) cylindrical o h R k = absurd (miss (1 ∷ 6 ∷ 7 ∷ 8 ∷ 9 ∷ []) 0 tt k)
+pub solid-none : (s : Shape) (cylindrical : Bool) (o : TessellationOptions) (h : Held) → Ready h → OneOf (1 ∷ 4 ∷ 5 ∷ 6 ∷ 7 ∷ 8 ∷ 9 ∷ []) (tagOf ofShape.the-type s) → Runs (solidSoup cylindrical s o) h h
+solid-none (Box start stop) cylindrical o h R k = absurd (miss (1 ∷ 4 ∷ 5 ∷ 6 ∷ 7 ∷ 8 ∷ 9 ∷ []) 0 tt k)
 solid-none MultiBox cylindrical o h R k = runs-none h R
-solid-none (Sphere center radius) cylindrical o h R k = absurd (miss (1 ∷ 6 ∷ 7 ∷ 8 ∷ 9 ∷ []) 2 tt k)
-solid-none (SphericalShell center radius width) cylindrical o h R k = absurd (miss (1 ∷ 6 ∷ 7 ∷ 8 ∷ 9 ∷ []) 3 tt k)
-solid-none (Cylinder start stop radius) cylindrical o h R k = absurd (miss (1 ∷ 6 ∷ 7 ∷ 8 ∷ 9 ∷ []) 4 tt k)
-solid-none (CylindricalShell start stop radius width) cylindrical o h R k = absurd (miss (1 ∷ 6 ∷ 7 ∷ 8 ∷ 9 ∷ []) 5 tt k)
+solid-none (Sphere center radius) cylindrical o h R k = absurd (miss (1 ∷ 4 ∷ 5 ∷ 6 ∷ 7 ∷ 8 ∷ 9 ∷ []) 2 tt k)
+solid-none (SphericalShell center radius width) cylindrical o h R k = absurd (miss (1 ∷ 4 ∷ 5 ∷ 6 ∷ 7 ∷ 8 ∷ 9 ∷ []) 3 tt k)
+solid-none (Cylinder start stop radius) cylindrical o h R k = runs-none h R
+solid-none (CylindricalShell start stop radius width) cylindrical o h R k = runs-none h R
 solid-none (Polygon normal elevation) cylindrical o h R k = runs-none h R
 solid-none (LinPoly normal elevation length) cylindrical o h R k = runs-none h R
 solid-none (RotPoly normal elevation axis start stop) cylindrical o h R k = runs-none h R
 solid-none (Wire radius) cylindrical o h R k = runs-none h R
+
+pub tube-none : (s : Shape) (cylindrical : Bool) (n : ℕ) (h : Held) → Ready h → OneOf (0 ∷ 1 ∷ 2 ∷ 3 ∷ 6 ∷ 7 ∷ 8 ∷ 9 ∷ []) (tagOf ofShape.the-type s) → Runs (tubeSoup cylindrical s n) h h
+tube-none (Box start stop) cylindrical n h R k = runs-none h R
+tube-none MultiBox cylindrical n h R k = runs-none h R
+tube-none (Sphere center radius) cylindrical n h R k = runs-none h R
+tube-none (SphericalShell center radius width) cylindrical n h R k = runs-none h R
+tube-none (Cylinder start stop radius) cylindrical n h R k = absurd (miss (0 ∷ 1 ∷ 2 ∷ 3 ∷ 6 ∷ 7 ∷ 8 ∷ 9 ∷ []) 4 tt k)
+tube-none (CylindricalShell start stop radius width) cylindrical n h R k = absurd (miss (0 ∷ 1 ∷ 2 ∷ 3 ∷ 6 ∷ 7 ∷ 8 ∷ 9 ∷ []) 5 tt k)
+tube-none (Polygon normal elevation) cylindrical n h R k = runs-none h R
+tube-none (LinPoly normal elevation length) cylindrical n h R k = runs-none h R
+tube-none (RotPoly normal elevation axis start stop) cylindrical n h R k = runs-none h R
+tube-none (Wire radius) cylindrical n h R k = runs-none h R
 
 pub outline-none : (s : Shape) (v : List Float) (n : ℕ) (h : Held) → Ready h → OneOf (0 ∷ 1 ∷ 2 ∷ 3 ∷ 4 ∷ 5 ∷ 9 ∷ []) (tagOf ofShape.the-type s) → Runs (outlineSoup s v n) h h
 outline-none (Box start stop) v n h R k = runs-none h R
@@ -132,19 +137,33 @@ outline-none (RotPoly normal elevation axis start stop) v n h R k = absurd (miss
 outline-none (Wire radius) v n h R k = runs-none h R
 
 -- the one part of such a shape
-pub solid-part : (s : Shape) (cylindrical : Bool) (v : List Float) (o : TessellationOptions) (h : Held) (w r : Welder) (vs : List Float) (ts ws : List ℕ) → OneOf (0 ∷ 2 ∷ 3 ∷ 4 ∷ 5 ∷ []) (tagOf ofShape.the-type s)
+pub solid-part : (s : Shape) (cylindrical : Bool) (v : List Float) (o : TessellationOptions) (h : Held) (w r : Welder) (vs : List Float) (ts ws : List ℕ) → OneOf (0 ∷ 2 ∷ 3 ∷ []) (tagOf ofShape.the-type s)
     → Runs (solidSoup cylindrical s o) h (held w vs ts ws) → Parted w r → PartsRun (partsOf cylindrical s v o) h (held r vs ts ws)
 unfolding partsOf
 solid-part (Box start stop) cylindrical v o h w r vs ts ws k R P = parts-one (solidSoup cylindrical (Box start stop) o) h w r vs ts ws R P
-solid-part MultiBox cylindrical v o h w r vs ts ws k R P = absurd (miss (0 ∷ 2 ∷ 3 ∷ 4 ∷ 5 ∷ []) 1 tt k)
+solid-part MultiBox cylindrical v o h w r vs ts ws k R P = absurd (miss (0 ∷ 2 ∷ 3 ∷ []) 1 tt k)
 solid-part (Sphere center radius) cylindrical v o h w r vs ts ws k R P = parts-one (solidSoup cylindrical (Sphere center radius) o) h w r vs ts ws R P
 solid-part (SphericalShell center radius width) cylindrical v o h w r vs ts ws k R P = parts-one (solidSoup cylindrical (SphericalShell center radius width) o) h w r vs ts ws R P
-solid-part (Cylinder start stop radius) cylindrical v o h w r vs ts ws k R P = parts-one (solidSoup cylindrical (Cylinder start stop radius) o) h w r vs ts ws R P
-solid-part (CylindricalShell start stop radius width) cylindrical v o h w r vs ts ws k R P = parts-one (solidSoup cylindrical (CylindricalShell start stop radius width) o) h w r vs ts ws R P
-solid-part (Polygon normal elevation) cylindrical v o h w r vs ts ws k R P = absurd (miss (0 ∷ 2 ∷ 3 ∷ 4 ∷ 5 ∷ []) 6 tt k)
-solid-part (LinPoly normal elevation length) cylindrical v o h w r vs ts ws k R P = absurd (miss (0 ∷ 2 ∷ 3 ∷ 4 ∷ 5 ∷ []) 7 tt k)
-solid-part (RotPoly normal elevation axis start stop) cylindrical v o h w r vs ts ws k R P = absurd (miss (0 ∷ 2 ∷ 3 ∷ 4 ∷ 5 ∷ []) 8 tt k)
-solid-part (Wire radius) cylindrical v o h w r vs ts ws k R P = absurd (miss (0 ∷ 2 ∷ 3 ∷ 4 ∷ 5 ∷ []) 9 tt k)
+solid-part (Cylinder start stop radius) cylindrical v o h w r vs ts ws k R P = absurd (miss (0 ∷ 2 ∷ 3 ∷ []) 4 tt k)
+solid-part (CylindricalShell start stop radius width) cylindrical v o h w r vs ts ws k R P = absurd (miss (0 ∷ 2 ∷ 3 ∷ []) 5 tt k)
+solid-part (Polygon normal elevation) cylindrical v o h w r vs ts ws k R P = absurd (miss (0 ∷ 2 ∷ 3 ∷ []) 6 tt k)
+solid-part (LinPoly normal elevation length) cylindrical v o h w r vs ts ws k R P = absurd (miss (0 ∷ 2 ∷ 3 ∷ []) 7 tt k)
+solid-part (RotPoly normal elevation axis start stop) cylindrical v o h w r vs ts ws k R P = absurd (miss (0 ∷ 2 ∷ 3 ∷ []) 8 tt k)
+solid-part (Wire radius) cylindrical v o h w r vs ts ws k R P = absurd (miss (0 ∷ 2 ∷ 3 ∷ []) 9 tt k)
+
+pub tube-part : (s : Shape) (cylindrical : Bool) (v : List Float) (o : TessellationOptions) (h : Held) (w r : Welder) (vs : List Float) (ts ws : List ℕ) → OneOf (4 ∷ 5 ∷ []) (tagOf ofShape.the-type s)
+    → Runs (tubeSoup cylindrical s (o .segments)) h (held w vs ts ws) → Parted w r → PartsRun (partsOf cylindrical s v o) h (held r vs ts ws)
+unfolding partsOf
+tube-part (Box start stop) cylindrical v o h w r vs ts ws k R P = absurd (miss (4 ∷ 5 ∷ []) 0 tt k)
+tube-part MultiBox cylindrical v o h w r vs ts ws k R P = absurd (miss (4 ∷ 5 ∷ []) 1 tt k)
+tube-part (Sphere center radius) cylindrical v o h w r vs ts ws k R P = absurd (miss (4 ∷ 5 ∷ []) 2 tt k)
+tube-part (SphericalShell center radius width) cylindrical v o h w r vs ts ws k R P = absurd (miss (4 ∷ 5 ∷ []) 3 tt k)
+tube-part (Cylinder start stop radius) cylindrical v o h w r vs ts ws k R P = parts-one (tubeSoup cylindrical (Cylinder start stop radius) (o .segments)) h w r vs ts ws R P
+tube-part (CylindricalShell start stop radius width) cylindrical v o h w r vs ts ws k R P = parts-one (tubeSoup cylindrical (CylindricalShell start stop radius width) (o .segments)) h w r vs ts ws R P
+tube-part (Polygon normal elevation) cylindrical v o h w r vs ts ws k R P = absurd (miss (4 ∷ 5 ∷ []) 6 tt k)
+tube-part (LinPoly normal elevation length) cylindrical v o h w r vs ts ws k R P = absurd (miss (4 ∷ 5 ∷ []) 7 tt k)
+tube-part (RotPoly normal elevation axis start stop) cylindrical v o h w r vs ts ws k R P = absurd (miss (4 ∷ 5 ∷ []) 8 tt k)
+tube-part (Wire radius) cylindrical v o h w r vs ts ws k R P = absurd (miss (4 ∷ 5 ∷ []) 9 tt k)
 
 pub outline-part : (s : Shape) (cylindrical : Bool) (v : List Float) (o : TessellationOptions) (h : Held) (w r : Welder) (vs : List Float) (ts ws : List ℕ) → OneOf (6 ∷ 7 ∷ 8 ∷ []) (tagOf ofShape.the-type s)
     → Runs (outlineSoup s v (o .segments)) h (held w vs ts ws) → Parted w r → PartsRun (partsOf cylindrical s v o) h (held r vs ts ws)

@@ -1,4 +1,4 @@
--- The soups of the shapes that have one part, as `partsOf` of `outcome` has them: of those without a list, and of outlines. Definitions only.
+-- The soups of the shapes that have one part, as `partsOf` of `outcome` has them: of boxes and spheres, of cylinders, and of outlines. Definitions only.
 use mathlib.Core.Bool.{Bool}
 use mathlib.Core.List.{List, []}
 use Prim.Native.Nat.{ℕ}
@@ -12,18 +12,31 @@ use Rattle.soups.specs.Sphere.{sphereSoup, sphericalShellSoup}
 use Rattle.soups.specs.Cylinder.{cylinderSoup, cylindricalShellSoup}
 use Rattle.soups.specs.Polygons.{polygonSoup, linPolySoup, rotPolySoup}
 
--- a box, a sphere, a cylinder or a shell
+-- a box, a sphere or a spherical shell
 abbrev pub solidSoup : Bool → Shape → TessellationOptions → Soup
 solidSoup cylindrical (Box start stop) o = boxSoup cylindrical start stop (o .segments)
 solidSoup cylindrical MultiBox o = []
 solidSoup cylindrical (Sphere center radius) o = sphereSoup cylindrical center radius (o .segments) (o .«sphere_rings»)
 solidSoup cylindrical (SphericalShell center radius width) o = sphericalShellSoup cylindrical center radius width (o .segments) (o .«sphere_rings»)
-solidSoup cylindrical (Cylinder start stop radius) o = cylinderSoup cylindrical start stop radius (o .segments)
-solidSoup cylindrical (CylindricalShell start stop radius width) o = cylindricalShellSoup cylindrical start stop radius width (o .segments)
+solidSoup cylindrical (Cylinder start stop radius) o = []
+solidSoup cylindrical (CylindricalShell start stop radius width) o = []
 solidSoup cylindrical (Polygon normal elevation) o = []
 solidSoup cylindrical (LinPoly normal elevation length) o = []
 solidSoup cylindrical (RotPoly normal elevation axis start stop) o = []
 solidSoup cylindrical (Wire radius) o = []
+
+-- a cylinder or a cylindrical shell
+abbrev pub tubeSoup : Bool → Shape → ℕ → Soup
+tubeSoup cylindrical (Box start stop) segments = []
+tubeSoup cylindrical MultiBox segments = []
+tubeSoup cylindrical (Sphere center radius) segments = []
+tubeSoup cylindrical (SphericalShell center radius width) segments = []
+tubeSoup cylindrical (Cylinder start stop radius) segments = cylinderSoup cylindrical start stop radius segments
+tubeSoup cylindrical (CylindricalShell start stop radius width) segments = cylindricalShellSoup cylindrical start stop radius width segments
+tubeSoup cylindrical (Polygon normal elevation) segments = []
+tubeSoup cylindrical (LinPoly normal elevation length) segments = []
+tubeSoup cylindrical (RotPoly normal elevation axis start stop) segments = []
+tubeSoup cylindrical (Wire radius) segments = []
 
 -- an outline with its lent list v
 abbrev pub outlineSoup : Shape → List Float → ℕ → Soup

@@ -2,5 +2,6 @@
 mod outlines;
 mod shapes;
 mod solid;
+mod tubes;
 
 pub use shapes::weld_shape;

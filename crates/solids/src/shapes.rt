@@ -6,6 +6,7 @@ ghost use Rattle.outcome.specs.Solid.{partsOf};
 ghost use Rattle.solids.specs.Limits.{Bounded, Listed};
 use crate::outlines;
 use crate::solid;
+use crate::tubes;
 use shape::Shape;
 use shape::TessellationOptions;
 use weld::Welder;
@@ -60,6 +61,15 @@ pub fn weld_shape(
                 list,
                 segments,
             )),
+        Shape::Cylinder { .. } | Shape::CylindricalShell { .. } => weld::new_part(tubes::weld_tube(
+            vertices,
+            triangles,
+            work,
+            w,
+            shape,
+            cylindrical,
+            segments,
+        )),
         _ => weld::new_part(solid::weld_solid(
             vertices,
             triangles,

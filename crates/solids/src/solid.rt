@@ -1,4 +1,4 @@
-// The cases of tessellate in src/tessellate.rs that have one part and no list.
+// The cases Box, Sphere and SphericalShell of tessellate in src/tessellate.rs.
 ghost use Rattle.weld.specs.Rep.{held, Ready, Runs};
 ghost use Rattle.solids.specs.Limits.{Bounded};
 ghost use Rattle.solids.specs.Soups.{solidSoup};
@@ -6,7 +6,7 @@ use shape::Shape;
 use shape::TessellationOptions;
 use weld::Welder;
 
-// Welds a box, a sphere, a cylinder or a shell, and nothing of another shape.
+// Welds a box, a sphere or a spherical shell, and nothing of another shape.
 pub fn weld_solid(
     vertices: &mut [f64],
     triangles: &mut [u32],
@@ -65,36 +65,6 @@ pub fn weld_solid(
             segments,
             rings,
         ),
-        Shape::Cylinder {
-            start,
-            stop,
-            radius,
-        } => {
-            let a = around::to_cartesian(start, cylindrical);
-            let b = around::to_cartesian(stop, cylindrical);
-            rounds::weld_cylinder(vertices, triangles, work, w, a, b, 0.0, radius, segments)
-        }
-        Shape::CylindricalShell {
-            start,
-            stop,
-            radius,
-            shell_width,
-        } => {
-            let a = around::to_cartesian(start, cylindrical);
-            let b = around::to_cartesian(stop, cylindrical);
-            let half = shell_width / 2.0;
-            rounds::weld_cylinder(
-                vertices,
-                triangles,
-                work,
-                w,
-                a,
-                b,
-                radius - half,
-                radius + half,
-                segments,
-            )
-        }
         _ => w,
     }
 }

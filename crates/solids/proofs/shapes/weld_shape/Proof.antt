@@ -1,7 +1,7 @@
 -- `solids::shapes::weld_shape` meets its contract. Assumes nothing.
 use borrow.Author.Needs.{needs}
 use Rattle.outcome.specs.Solid.{partsOf}
-use Rattle.solids.proofs.ShapeRuns.{shape-as, solid-part, outline-part}
+use Rattle.solids.proofs.ShapeRuns.{shape-as, solid-part, tube-part, outline-part}
 use Rattle.solids.proofs.shapes.weld_shape.Statement.{statement}
 use Rattle.solids.proofs.shapes.weld_shape.Tie as tie
 
@@ -23,11 +23,17 @@ weld-outline-requires c κs = (c .before .before .before .before .before .before
 new-part-requires : tie.Need-new-part-requires
 new-part-requires c κs = tt
 
-weld-solid-requires : tie.Need-weld-solid-requires
-weld-solid-requires c κs = (c .before .before .before .before .before .before .before .before .pre .0, c .before .before .before .before .before .before .before .before .pre .1 .0)
+weld-tube-requires : tie.Need-weld-tube-requires
+weld-tube-requires c κs = (c .before .before .before .before .before .before .before .before .pre .0, c .before .before .before .before .before .before .before .before .pre .1 .0 .segments)
 
 new-part-requires-2 : tie.Need-new-part-requires-2
 new-part-requires-2 c κs = tt
+
+weld-solid-requires : tie.Need-weld-solid-requires
+weld-solid-requires c κs = (c .before .before .before .before .before .before .before .before .pre .0, c .before .before .before .before .before .before .before .before .pre .1 .0)
+
+new-part-requires-3 : tie.Need-new-part-requires-3
+new-part-requires-3 c κs = tt
 
 same-length : tie.Need-same-length
 same-length c = c .before .before .before .before .before .before .weld-multi-box .ensures .vlong
@@ -68,16 +74,28 @@ returns-3 : tie.Need-returns-3
 returns-3 c = outline-part (c .before .before .before .before .before .before .before .before .before .before .before .before .before .before .before .before .args .shape) _ _ (c .before .before .before .before .before .before .before .before .before .before .before .before .before .before .before .before .args .options) _ _ _ _ _ _ (c .before .before .before .before .before .before .before .before .before .before .before .match .keys3) (c .before .before .before .before .before .before .before .weld-outline .ensures) (c .new-part .ensures)
 
 same-length-10 : tie.Need-same-length-10
-same-length-10 c = c .before .before .before .before .before .before .before .weld-solid .ensures .vlong
+same-length-10 c = c .before .before .before .before .before .before .before .weld-tube .ensures .vlong
 
 same-length-11 : tie.Need-same-length-11
-same-length-11 c = c .before .before .before .before .before .before .before .weld-solid .ensures .tlong
+same-length-11 c = c .before .before .before .before .before .before .before .weld-tube .ensures .tlong
 
 same-length-12 : tie.Need-same-length-12
-same-length-12 c = c .before .before .before .before .before .before .before .weld-solid .ensures .wlong
+same-length-12 c = c .before .before .before .before .before .before .before .weld-tube .ensures .wlong
 
 returns-4 : tie.Need-returns-4
-returns-4 c = solid-part (c .before .before .before .before .before .before .before .before .before .before .before .before .before .before .before .before .args .shape) _ _ (c .before .before .before .before .before .before .before .before .before .before .before .before .before .before .before .before .args .options) _ _ _ _ _ _ (c .before .before .before .before .before .before .before .before .before .before .before .match .keys4) (c .before .before .before .before .before .before .before .weld-solid .ensures) (c .new-part2 .ensures)
+returns-4 c = tube-part (c .before .before .before .before .before .before .before .before .before .before .before .before .before .before .before .before .args .shape) _ _ (c .before .before .before .before .before .before .before .before .before .before .before .before .before .before .before .before .args .options) _ _ _ _ _ _ (c .before .before .before .before .before .before .before .before .before .before .before .match .keys4) (c .before .before .before .before .before .before .before .weld-tube .ensures) (c .new-part2 .ensures)
+
+same-length-13 : tie.Need-same-length-13
+same-length-13 c = c .before .before .before .before .before .before .before .weld-solid .ensures .vlong
+
+same-length-14 : tie.Need-same-length-14
+same-length-14 c = c .before .before .before .before .before .before .before .weld-solid .ensures .tlong
+
+same-length-15 : tie.Need-same-length-15
+same-length-15 c = c .before .before .before .before .before .before .before .weld-solid .ensures .wlong
+
+returns-5 : tie.Need-returns-5
+returns-5 c = solid-part (c .before .before .before .before .before .before .before .before .before .before .before .before .before .before .before .before .args .shape) _ _ (c .before .before .before .before .before .before .before .before .before .before .before .before .before .before .before .before .args .options) _ _ _ _ _ _ (c .before .before .before .before .before .before .before .before .before .before .before .match .keys5) (c .before .before .before .before .before .before .before .weld-solid .ensures) (c .new-part3 .ensures)
 
 pub weld-shape-spec : {M : Type 1} → statement M
 weld-shape-spec =
@@ -89,8 +107,10 @@ weld-shape-spec =
     weld-wire-requires
     weld-outline-requires
     new-part-requires
-    weld-solid-requires
+    weld-tube-requires
     new-part-requires-2
+    weld-solid-requires
+    new-part-requires-3
     same-length
     same-length-2
     same-length-3
@@ -106,4 +126,8 @@ weld-shape-spec =
     same-length-10
     same-length-11
     same-length-12
-    returns-4)
+    returns-4
+    same-length-13
+    same-length-14
+    same-length-15
+    returns-5)

@@ -1,7 +1,6 @@
 -- `solids::solid::weld_solid` meets its contract. Assumes nothing.
 use borrow.Author.Needs.{needs}
-use lib.Ieee.{ofBits}
-use Rattle.solids.proofs.ShapeRuns.{sphere-soup, cylinder-soup, shell-soup, solid-as, solid-none}
+use Rattle.solids.proofs.ShapeRuns.{sphere-soup, solid-as, solid-none}
 use Rattle.solids.proofs.solid.weld_solid.Statement.{statement}
 use Rattle.solids.proofs.solid.weld_solid.Tie as tie
 
@@ -25,30 +24,6 @@ enum-known-shape-3 c = search needs
 
 weld-spherical-shell-requires : tie.Need-weld-spherical-shell-requires
 weld-spherical-shell-requires c κs = (c .before .before .before .before .before .before .before .before .before .pre .0, (c .before .before .before .before .before .before .before .before .before .pre .1 .segments, c .before .before .before .before .before .before .before .before .before .pre .1 .rings))
-
-enum-known-shape-4 : tie.Need-enum-known-shape-4
-enum-known-shape-4 c = search needs
-
-to-cartesian-requires-2 : tie.Need-to-cartesian-requires-2
-to-cartesian-requires-2 c κs = tt
-
-to-cartesian-requires-3 : tie.Need-to-cartesian-requires-3
-to-cartesian-requires-3 c κs = tt
-
-weld-cylinder-requires : tie.Need-weld-cylinder-requires
-weld-cylinder-requires c κs = (c .before .before .before .before .before .before .before .before .before .before .before .pre .0, c .before .before .before .before .before .before .before .before .before .before .before .pre .1 .segments)
-
-enum-known-shape-5 : tie.Need-enum-known-shape-5
-enum-known-shape-5 c = search needs
-
-to-cartesian-requires-4 : tie.Need-to-cartesian-requires-4
-to-cartesian-requires-4 c κs = tt
-
-to-cartesian-requires-5 : tie.Need-to-cartesian-requires-5
-to-cartesian-requires-5 c κs = tt
-
-weld-cylinder-requires-2 : tie.Need-weld-cylinder-requires-2
-weld-cylinder-requires-2 c κs = (c .before .before .before .before .before .before .before .before .before .before .before .pre .0, c .before .before .before .before .before .before .before .before .before .before .before .pre .1 .segments)
 
 same-length : tie.Need-same-length
 same-length c = c .before .before .before .before .before .before .weld-box-shape .ensures .vlong
@@ -86,33 +61,8 @@ same-length-9 c = c .before .before .before .before .before .before .weld-spheri
 returns-3 : tie.Need-returns-3
 returns-3 c = solid-as _ _ _ _ _ _ (c .before .before .before .before .before .before .before .before .before .before .before .shape3 .given .1) (c .before .before .before .before .before .before .weld-spherical-shell .ensures)
 
-same-length-10 : tie.Need-same-length-10
-same-length-10 c = c .before .before .before .before .before .before .weld-cylinder .ensures .vlong
-
-same-length-11 : tie.Need-same-length-11
-same-length-11 c = c .before .before .before .before .before .before .weld-cylinder .ensures .tlong
-
-same-length-12 : tie.Need-same-length-12
-same-length-12 c = c .before .before .before .before .before .before .weld-cylinder .ensures .wlong
-
 returns-4 : tie.Need-returns-4
-unfolding ofBits
-returns-4 c = solid-as _ _ _ _ _ _ (c .before .before .before .before .before .before .before .before .before .before .before .before .before .shape4 .given .1) (cylinder-soup _ _ _ _ _ _ _ _ _ (c .before .before .before .before .before .before .before .before .before .before .before .to-cartesian2 .ensures) (c .before .before .before .before .before .before .before .before .before .before .to-cartesian3 .ensures) (c .before .before .before .before .before .before .weld-cylinder .ensures))
-
-same-length-13 : tie.Need-same-length-13
-same-length-13 c = c .before .before .before .before .before .before .weld-cylinder2 .ensures .vlong
-
-same-length-14 : tie.Need-same-length-14
-same-length-14 c = c .before .before .before .before .before .before .weld-cylinder2 .ensures .tlong
-
-same-length-15 : tie.Need-same-length-15
-same-length-15 c = c .before .before .before .before .before .before .weld-cylinder2 .ensures .wlong
-
-returns-5 : tie.Need-returns-5
-returns-5 c = solid-as _ _ _ _ _ _ (c .before .before .before .before .before .before .before .before .before .before .before .before .before .shape5 .given .1) (shell-soup _ _ _ _ _ _ _ _ _ _ (c .before .before .before .before .before .before .before .before .before .before .before .to-cartesian4 .ensures) (c .before .before .before .before .before .before .before .before .before .before .to-cartesian5 .ensures) (c .before .before .before .before .before .before .weld-cylinder2 .ensures))
-
-returns-6 : tie.Need-returns-6
-returns-6 c = solid-none (c .before .before .before .before .args .shape) _ _ _ (c .before .before .before .before .pre .0) (c .match .keys6)
+returns-4 c = solid-none (c .before .before .before .before .args .shape) _ _ _ (c .before .before .before .before .pre .0) (c .match .keys4)
 
 pub weld-solid-spec : {M : Type 1} → statement M
 weld-solid-spec =
@@ -125,14 +75,6 @@ weld-solid-spec =
     weld-sphere-requires
     enum-known-shape-3
     weld-spherical-shell-requires
-    enum-known-shape-4
-    to-cartesian-requires-2
-    to-cartesian-requires-3
-    weld-cylinder-requires
-    enum-known-shape-5
-    to-cartesian-requires-4
-    to-cartesian-requires-5
-    weld-cylinder-requires-2
     same-length
     same-length-2
     same-length-3
@@ -145,12 +87,4 @@ weld-solid-spec =
     same-length-8
     same-length-9
     returns-3
-    same-length-10
-    same-length-11
-    same-length-12
-    returns-4
-    same-length-13
-    same-length-14
-    same-length-15
-    returns-5
-    returns-6)
+    returns-4)
