@@ -1,0 +1,2 @@
+-- What the contracts of `same` cite.
+pub mod Begins
