@@ -27,12 +27,12 @@ pub fn numbers(v: &[u32], front: &[u32]) -> bool
     if v.len() < front.len() {
         return false;
     }
-    let mut i = 0;
-    while i < front.len() {
-        if v[i] != front[i] {
+    let mut k = 0;
+    while k < front.len() {
+        if v[k] != front[k] {
             return false;
         }
-        i += 1;
+        k += 1;
     }
     true
 }
