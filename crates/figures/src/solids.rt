@@ -1,6 +1,5 @@
 // The solids with their counts.
 use crate::draw;
-use lines::same;
 use lines::solids;
 use lines::text;
 use lines::titles;

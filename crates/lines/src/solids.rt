@@ -1,5 +1,4 @@
 // What a drawn mesh is: open or closed, its measures, its first points and triangles.
-use crate::edges;
 use crate::text;
 use mesh::TriMesh;
 
@@ -17,7 +16,7 @@ pub fn border(t: &[u32], k: usize) {
         text::bytes(b"\n");
         return;
     }
-    open_or_closed(edges::closed(&t[..3 * k]));
+    open_or_closed(edgecount::closed(&t[..3 * k]));
 }
 
 pub fn measures(m: TriMesh, v: &[f64], t: &[u32]) {

@@ -1,4 +1,6 @@
 // Text to standard output. A failed write is not reported: the output is then short.
+ghost use mathlib.Core.Path.{_≡_};
+ghost use Rattle.lines.specs.Whole.{isWhole};
 use math::Vec3;
 use mesh::Measured;
 use mesh::TriMesh;
@@ -15,8 +17,10 @@ pub fn word(n: u32) {
     io::print_decimal(1, n as u64);
 }
 
-// Whether y is a whole number below 10^15.
-fn is_whole(y: f64) -> bool {
+// Whether y is below 10^15 and the whole number nearest to itself.
+fn is_whole(y: f64) -> bool
+    ensures { λ r. ⌜ r ≡ isWhole y ⌝ }
+{
     if y < 1000000000000000.0 {
         let w = ieee::nearest_whole(y);
         return w.value == y;

@@ -4,11 +4,6 @@ use lib.ListN.{length-take}
 use borrow.Author.Needs.{needs}
 use Rattle.lines.proofs.solids.border.Statement.{statement}
 use Rattle.lines.proofs.solids.border.Tie as tie
-use Rattle.lines.proofs.solids.border.Reads as reads
-use Rattle.lines.proofs.solids.border.Lts as lts
-use Rattle.lines.proofs.edges.closed.Reads as closed-reads
-use Rattle.lines.proofs.solids.open_or_closed.Reads as open-or-closed-reads
-use Rattle.lines.proofs.text.bytes.Reads as bytes-reads
 
 slice-aggregate-bytes : tie.Need-slice-aggregate-bytes
 slice-aggregate-bytes c = search needs

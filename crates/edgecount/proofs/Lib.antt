@@ -1,0 +1,2 @@
+-- Laws of the counts, for the proofs of `edgecount`.
+pub mod Counts

@@ -1,0 +1,2 @@
+-- What the contracts of `edgecount` cite.
+pub mod Even

@@ -1,0 +1,2 @@
+-- Laws of `begins`, for the proofs of `same`.
+pub mod Fronts
