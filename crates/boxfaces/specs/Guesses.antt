@@ -19,8 +19,8 @@ placeIn [] q = 0
 placeIn (x ∷ xs) q = cond (eqb x q) 0 (suc (placeIn xs q))
 
 -- the number of a corner: the two faces of the first axis come first, and show all eight
-abbrev pub numberOf : ℕ → ℕ
-numberOf = placeIn (cornersAt 0 0 ++ cornersAt 0 1)
+abbrev pub cornerNumber : ℕ → ℕ
+cornerNumber = placeIn (cornersAt 0 0 ++ cornersAt 0 1)
 
 -- four numbers, counted from base
 abbrev pub numbersFrom : ℕ → ℕ → ℕ → ℕ → ℕ → FourNumbers
@@ -28,7 +28,7 @@ numbersFrom base a b c d = record { a = base + a; b = base + b; c = base + c; d 
 
 -- the numbers of the points of the face on the axis k
 abbrev pub guessesAt : ℕ → ℕ → ℕ → FourNumbers
-guessesAt base k s = numbersFrom base (numberOf (corner k s 0 0)) (numberOf (corner k s s (1 - s))) (numberOf (corner k s 1 1)) (numberOf (corner k s (1 - s) s))
+guessesAt base k s = numbersFrom base (cornerNumber (corner k s 0 0)) (cornerNumber (corner k s s (1 - s))) (cornerNumber (corner k s 1 1)) (cornerNumber (corner k s (1 - s) s))
 
 -- the numbers of the points of face f of six: 2 k is the low one of the axis k, 2 k + 1 the high one
 abbrev pub guessesOf : ℕ → ℕ → FourNumbers

@@ -19,8 +19,8 @@ fn numbers_from(base: usize, a: usize, b: usize, c: usize, d: usize) -> FourNumb
 // The numbers of the points of face f in a box whose corners differ: they are numbered from `base` on in the order in which the faces
 // show them. The welder tests each.
 pub fn guesses(base: usize, f: usize) -> FourNumbers
-    requires { ⌜ base < 2 ^ 32 ⌝ }
-    ensures { λ r. ⌜ (f < 6 → r ≡ guessesOf base f) ⌝ }
+    requires { ⌜ (base < 2 ^ 32) × (f < 6) ⌝ }
+    ensures { λ r. ⌜ r ≡ guessesOf base f ⌝ }
 {
     match f {
         0 => numbers_from(base, 0, 1, 2, 3),

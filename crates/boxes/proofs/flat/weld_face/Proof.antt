@@ -17,7 +17,9 @@ face-requires : tie.Need-face-requires
 face-requires c κs = omega (arith, c .before .before .before .before .before .pre .1)
 
 guesses-requires : tie.Need-guesses-requires
-guesses-requires c κs = base-small _ _ _ (c .before .before .before .before .before .before .pre .0 .linked)
+guesses-requires c κs =
+    let s = c .before .before .before .before .before .before in
+    (base-small _ _ _ (s .pre .0 .linked), s .pre .1)
 
 weld-quad-requires : tie.Need-weld-quad-requires
 weld-quad-requires c κs = c .before .before .before .before .before .before .before .before .before .before .pre .0

@@ -29,25 +29,25 @@ numbers-from-requires-6 : tie.Need-numbers-from-requires-6
 numbers-from-requires-6 c κs = search needs
 
 returns : tie.Need-returns
-returns c h = c .numbers-from .ensures ∙ ap (guessesOf (c .before .before .args .base)) (sym (c .before .match .keys1))
+returns c = c .numbers-from .ensures ∙ ap (guessesOf (c .before .before .args .base)) (sym (c .before .match .keys1))
 
 returns-2 : tie.Need-returns-2
-returns-2 c h = c .numbers-from2 .ensures ∙ ap (guessesOf (c .before .before .args .base)) (sym (c .before .match .keys2))
+returns-2 c = c .numbers-from2 .ensures ∙ ap (guessesOf (c .before .before .args .base)) (sym (c .before .match .keys2))
 
 returns-3 : tie.Need-returns-3
-returns-3 c h = c .numbers-from3 .ensures ∙ ap (guessesOf (c .before .before .args .base)) (sym (c .before .match .keys3))
+returns-3 c = c .numbers-from3 .ensures ∙ ap (guessesOf (c .before .before .args .base)) (sym (c .before .match .keys3))
 
 returns-4 : tie.Need-returns-4
-returns-4 c h = c .numbers-from4 .ensures ∙ ap (guessesOf (c .before .before .args .base)) (sym (c .before .match .keys4))
+returns-4 c = c .numbers-from4 .ensures ∙ ap (guessesOf (c .before .before .args .base)) (sym (c .before .match .keys4))
 
 returns-5 : tie.Need-returns-5
-returns-5 c h = c .numbers-from5 .ensures ∙ ap (guessesOf (c .before .before .args .base)) (sym (c .before .match .keys5))
+returns-5 c = c .numbers-from5 .ensures ∙ ap (guessesOf (c .before .before .args .base)) (sym (c .before .match .keys5))
 
 returns-6 : tie.Need-returns-6
-returns-6 c h =
+returns-6 c =
     let f = c .before .before .args .f in
     let n = c .before .match .rest in
-    c .numbers-from6 .ensures ∙ ap (guessesOf (c .before .before .args .base)) (sym (last-face f (n .0 .0 .0 .0 .1) (n .0 .0 .0 .1) (n .0 .0 .1) (n .0 .1) (n .1) h))
+    c .numbers-from6 .ensures ∙ ap (guessesOf (c .before .before .args .base)) (sym (last-face f (n .0 .0 .0 .0 .1) (n .0 .0 .0 .1) (n .0 .0 .1) (n .0 .1) (n .1) (c .before .before .pre .1)))
 
 pub guesses-spec : {M : Type 1} → statement M
 guesses-spec =
