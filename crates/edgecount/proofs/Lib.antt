@@ -1,2 +1,3 @@
--- Laws of the counts, for the proofs of `edgecount`.
+-- Laws of the counts and of the test, for the proofs of `edgecount`.
 pub mod Counts
+pub mod ClosedTests

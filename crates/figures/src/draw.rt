@@ -1,5 +1,4 @@
 // Runs tessellate and writes its answer.
-use lines::text;
 use mesh::TriMesh;
 use shape::CoordSystem;
 use shape::OwnSystem;

@@ -1,7 +1,6 @@
 // The last input that is taken, and the first that is refused.
 use crate::draw;
 use crate::solids;
-use lines::text;
 use lines::titles;
 use shape::Shape;
 use transform::TransformOp;

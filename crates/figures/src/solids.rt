@@ -1,7 +1,6 @@
 // The solids with their counts.
 use crate::draw;
 use lines::solids;
-use lines::text;
 use lines::titles;
 use math::Vec3;
 use shape::Shape;

@@ -1,6 +1,5 @@
-// Text to standard output: numbers, points, outlines, meshes and their measures.
+// The lines of the program `figures`: titles, arcs and roots, outlines, solids and their measures.
 pub mod numbers;
 pub mod outlines;
 pub mod solids;
-pub mod text;
 pub mod titles;

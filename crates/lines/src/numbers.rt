@@ -1,5 +1,4 @@
 // Segments of arcs, and roots.
-use crate::text;
 
 const PI: f64 = 3.141592653589793;
 

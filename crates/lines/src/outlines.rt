@@ -1,5 +1,4 @@
 // Outlines: cleaning and clipping.
-use crate::text;
 
 fn clean(v: &[f64; 10]) {
     let mut out = [0.0; 10];

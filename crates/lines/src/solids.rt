@@ -1,5 +1,4 @@
 // What a drawn mesh is: open or closed, its measures, its first points and triangles.
-use crate::text;
 use mesh::TriMesh;
 
 fn open_or_closed(closed: bool) {

@@ -1,5 +1,4 @@
 // What is drawn, before the counts.
-use crate::text;
 use math::Vec3;
 
 // A box from the origin.

@@ -12,7 +12,8 @@ use Rattle.slices.proofs.Next.{every-end}
 use Rattle.triples.specs.Triples.{tripleAt}
 use Rattle.triples.proofs.NextTriples.{next-tris}
 use Rattle.edgecount.specs.Even.{evenTriangle}
-use Rattle.edgecount.proofs.Counts.{length-tris-whole, every-fails, every-passes, closed-test}
+use Rattle.edgecount.proofs.Counts.{length-tris-whole}
+use Rattle.edgecount.proofs.ClosedTests.{every-fails, every-passes, closed-test}
 use borrow.Author.Needs.{needs}
 use Rattle.edgecount.proofs.closed.Statement.{statement}
 use Rattle.edgecount.proofs.closed.Tie as tie
@@ -35,7 +36,8 @@ returns c =
     let l = c .before .before .before .loop in
     let n = next-tris t (l .i) 0 (omega arith) in
     let e = not-true (c .before .triangle-even .result) (c .if1 .taken) in
-    closed-test (tris t) false (every-fails (evenTriangle (tris t)) (tris t) (l .i) (tripleAt t (l .i) 0) (c .before .triangle-even .result) n (c .before .triangle-even .ensures) e (l .inv))
+    let r = c .before .triangle-even .result in
+    closed-test (tris t) false (every-fails (evenTriangle (tris t)) (tris t) (l .i) (tripleAt t (l .i) 0) r n (c .before .triangle-even .ensures) e (l .inv))
 
 add-i : tie.Need-add-i Inv-loop μ-loop
 add-i c = omega arith

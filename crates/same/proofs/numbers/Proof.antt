@@ -38,7 +38,8 @@ returns-2 : tie.Need-returns-2 Inv-loop μ-loop
 returns-2 c =
     let a = c .before .before .before .before .before .before .args in
     let l = c .before .before .before .before .loop in
-    begins-differs eqb (now (a .v)) (now (a .front)) (l .k) 0 (l .inv .0) (omega arith) (ne-eqb (getD (now (a .v)) (l .k) 0) (getD (now (a .front)) (l .k) 0) (λ e. omega arith)) (l .inv .1)
+    let e = ne-eqb (getD (now (a .v)) (l .k) 0) (getD (now (a .front)) (l .k) 0) (λ q. omega arith) in
+    begins-differs eqb (now (a .v)) (now (a .front)) (l .k) 0 (l .inv .0) (omega arith) e (l .inv .1)
 
 add-k : tie.Need-add-k Inv-loop μ-loop
 add-k c = omega arith
@@ -50,7 +51,8 @@ loop-again : tie.Need-loop-again Inv-loop μ-loop
 loop-again c =
     let a = c .before .before .before .before .before .before .args in
     let l = c .before .before .before .before .loop in
-    (l .inv .0, begins-same eqb (now (a .v)) (now (a .front)) (l .k) 0 (l .inv .0) (omega arith) (eq-eqb (getD (now (a .v)) (l .k) 0) (getD (now (a .front)) (l .k) 0) (omega arith)) (l .inv .1))
+    let e = eq-eqb (getD (now (a .v)) (l .k) 0) (getD (now (a .front)) (l .k) 0) (omega arith) in
+    (l .inv .0, begins-same eqb (now (a .v)) (now (a .front)) (l .k) 0 (l .inv .0) (omega arith) e (l .inv .1))
 
 returns-3 : tie.Need-returns-3 Inv-loop μ-loop
 returns-3 c =

@@ -1,6 +1,6 @@
-// Text to standard output. A failed write is not reported: the output is then short.
+// Text to standard output: numbers, points, corners, triangles and counts. A failed write is not reported: the output is then short.
 ghost use mathlib.Core.Path.{_≡_};
-ghost use Rattle.lines.specs.Whole.{isWhole};
+ghost use Rattle.text.specs.Whole.{isWhole};
 use math::Vec3;
 use mesh::Measured;
 use mesh::TriMesh;

@@ -1,8 +1,8 @@
--- `lines::text::corners` is safe and ends. Assumes nothing.
+-- `text::points` is safe and ends. Assumes nothing.
 use native.Mathlib.Omega.{arith}
 use Prim.Native.Nat.{_-_}
-use Rattle.lines.proofs.text.corners.Statement.{statement}
-use Rattle.lines.proofs.text.corners.Tie as tie
+use Rattle.text.proofs.points.Statement.{statement}
+use Rattle.text.proofs.points.Tie as tie
 
 abbrev Inv-loop : tie.InvT-loop
 Inv-loop v n i₀ i = Unit {0}
@@ -13,8 +13,8 @@ abbrev μ-loop : tie.MeasureT-loop
 loop-holds : tie.Need-loop-holds Inv-loop μ-loop
 loop-holds c = tt
 
-corner-of-requires : tie.Need-corner-of-requires Inv-loop μ-loop
-corner-of-requires c κs = tt
+point-of-requires : tie.Need-point-of-requires Inv-loop μ-loop
+point-of-requires c κs = tt
 
 add-i : tie.Need-add-i Inv-loop μ-loop
 add-i c = omega arith
@@ -28,7 +28,7 @@ loop-again c = tt
 returns : tie.Need-returns Inv-loop μ-loop
 returns c = tt
 
-pub corners-spec : {M : Type 1} → statement M
-corners-spec =
+pub points-spec : {M : Type 1} → statement M
+points-spec =
     tie.close
-    (tie.spec Inv-loop μ-loop loop-holds corner-of-requires add-i loop-less loop-again returns)
+    (tie.spec Inv-loop μ-loop loop-holds point-of-requires add-i loop-less loop-again returns)

@@ -1,8 +1,8 @@
--- `lines::text::triangles` is safe and ends. Assumes nothing.
+-- `text::triangles` is safe and ends. Assumes nothing.
 use native.Mathlib.Omega.{arith}
 use Prim.Native.Nat.{_-_}
-use Rattle.lines.proofs.text.triangles.Statement.{statement}
-use Rattle.lines.proofs.text.triangles.Tie as tie
+use Rattle.text.proofs.triangles.Statement.{statement}
+use Rattle.text.proofs.triangles.Tie as tie
 
 abbrev Inv-loop : tie.InvT-loop
 Inv-loop t n i₀ i = Unit {0}

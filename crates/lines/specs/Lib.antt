@@ -1,2 +1,0 @@
--- What the contracts of `lines` cite.
-pub mod Whole
