@@ -1,6 +1,6 @@
 // What a case asks for, by the call's number.
 ghost use mathlib.Core.Path.{_≡_};
-ghost use Rattle.casehead.specs.Asked.{meshWithinOf, withinOf, listFloatsOf, passedOf};
+ghost use Rattle.casehead.specs.Asked.{meshWithinOf, withinOf, beforeCall, listFloatsOf, passedOf};
 use cases::Head;
 
 // Whether the mesh's slices have no more than the most places.
@@ -23,26 +23,23 @@ pub fn within(h: Head) -> bool
     }
 }
 
-// How many floats of the list are read before the call: loading reads its own.
+// n before a call, by the call's number: loading reads its own.
+fn before_call(what: u8, n: u32) -> usize
+    ensures { λ r. ⌜ r ≡ beforeCall what n ⌝ }
+{
+    if what == 8 { 0 } else { slices::wide(n) }
+}
+
+// How many floats of the list are read before the call.
 pub fn list_floats(h: Head) -> usize
     ensures { λ r. ⌜ r ≡ listFloatsOf h ⌝ }
 {
-    let what = h.what;
-    if what == 8 {
-        0
-    } else {
-        slices::wide(h.list_floats)
-    }
+    before_call(h.what, h.list_floats)
 }
 
 // How many numbers are passed over before the call.
 pub fn passed(h: Head) -> usize
     ensures { λ r. ⌜ r ≡ passedOf h ⌝ }
 {
-    let what = h.what;
-    if what == 8 {
-        0
-    } else {
-        slices::wide(h.loaded_numbers)
-    }
+    before_call(h.what, h.loaded_numbers)
 }

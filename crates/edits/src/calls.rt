@@ -1,5 +1,9 @@
 // The calls: each runs the library on the slices that it is lent, and writes the result.
 ghost use mathlib.Core.Path.{_≡_};
+ghost use lib.ListN.{length};
+ghost use Rattle.meshcheck.specs.State.{state};
+ghost use Rattle.mesh.specs.Edits.{appendOf, flipOf, transformOf};
+ghost use Rattle.clipping.specs.Outcome.{clipOutline};
 ghost use Rattle.edits.specs.Agreed.{agreedOf};
 ghost use Rattle.edits.specs.States.{claimed};
 use crate::written::edited;
@@ -31,7 +35,10 @@ fn answered(e: Edited, vertices: &[f64], triangles: &[u32]) -> Answer
     }
 }
 
-pub fn clip(list: &[f64], triangles: &mut [u32]) -> bool {
+// Clips an outline. It answers whether the result was written.
+pub fn clip(list: &[f64], triangles: &mut [u32]) -> bool
+    ensures { λ _. ⌜ now (triangles .exit) ≡ clipOutline (now (list .entry)) (length (now (triangles .entry))) .slice ⌝ }
+{
     fill_words(triangles);
     let c = clipping::clip_outline(list, triangles);
     let why = c.refusal;
@@ -53,7 +60,10 @@ pub fn append(
     other: TriMesh,
     other_vertices: &[f64],
     other_triangles: &[u32],
-) -> Answer {
+) -> Answer
+    ensures { λ r. ⌜ state (r .mesh) (now (vertices .exit)) (now (triangles .exit))
+        ≡ appendOf (state m (now (vertices .entry)) (now (triangles .entry))) (state other (now («other_vertices» .entry)) (now («other_triangles» .entry))) .state ⌝ }
+{
     let e = mesh::append(
         m,
         vertices,
@@ -65,7 +75,9 @@ pub fn append(
     answered(e, vertices, triangles)
 }
 
-pub fn flip(m: TriMesh, vertices: &[f64], triangles: &mut [u32]) -> Answer {
+pub fn flip(m: TriMesh, vertices: &[f64], triangles: &mut [u32]) -> Answer
+    ensures { λ r. ⌜ state (r .mesh) (now (vertices .entry)) (now (triangles .exit)) ≡ flipOf (state m (now (vertices .entry)) (now (triangles .entry))) .state ⌝ }
+{
     let e = mesh::flip(m, vertices, triangles);
     answered(e, vertices, triangles)
 }
@@ -77,7 +89,10 @@ pub fn transform(
     ops: [TransformOp; 16],
     op_count: usize,
     degrees: bool,
-) -> Answer {
+) -> Answer
+    ensures { λ r. ⌜ state (r .mesh) (now (vertices .exit)) (now (triangles .exit))
+        ≡ transformOf ops «op_count» degrees (state m (now (vertices .entry)) (now (triangles .entry))) .state ⌝ }
+{
     let e = mesh::transform(m, vertices, triangles, ops, op_count, degrees);
     answered(e, vertices, triangles)
 }

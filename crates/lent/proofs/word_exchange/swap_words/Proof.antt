@@ -1,10 +1,10 @@
--- `lent::exchange::swap_floats` meets its contract. Assumes nothing.
+-- `lent::word_exchange::swap_words` meets its contract. Assumes nothing.
 use native.Mathlib.Omega.{arith}
 use Prim.Native.Nat.{_-_}
 use denote.Ref.{now}
 use Rattle.lent.proofs.Swapping.{Swapping, swapping-none, swapping-more, swapping-done}
-use Rattle.lent.proofs.exchange.swap_floats.Statement.{statement}
-use Rattle.lent.proofs.exchange.swap_floats.Tie as tie
+use Rattle.lent.proofs.word_exchange.swap_words.Statement.{statement}
+use Rattle.lent.proofs.word_exchange.swap_words.Tie as tie
 
 abbrev Inv-loop : tie.InvT-loop
 Inv-loop a₀ b₀ n i₀ a b i = Swapping n a₀ b₀ a b i
@@ -64,8 +64,8 @@ returns c =
     let l = c .before .loop in
     swapping-done _ _ _ _ _ (l .i) (l .inv) (omega arith)
 
-pub swap-floats-spec : {M : Type 1} → statement M
-swap-floats-spec =
+pub swap-words-spec : {M : Type 1} → statement M
+swap-words-spec =
     tie.close
     (tie.spec
     Inv-loop
