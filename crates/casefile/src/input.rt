@@ -1,13 +1,7 @@
 // Reading from standard input, in blocks. Each function answers whether the input had enough.
 ghost use Prim.Native.Nat.{_≤_};
 ghost use lib.ListN.{length};
-use transform::TransformOp;
-
-pub fn least(a: usize, b: usize) -> usize
-    ensures { λ r. ⌜ (r ≤ a) × (r ≤ b) ⌝ }
-{
-    if a < b { a } else { b }
-}
+use lent::least;
 
 // Fills b.
 pub fn fill(b: &mut [u8]) -> bool {
@@ -111,18 +105,4 @@ pub fn op_bytes(n: usize, buf: &mut [u8]) -> bool {
         return false;
     }
     fill(&mut buf[..136 * n])
-}
-
-// The first of count operations at the start of b, of which 16 are kept.
-pub fn ops(b: &[u8], count: usize) -> [TransformOp; 16] {
-    let none = TransformOp::Scale(1.0);
-    let mut out = [none; 16];
-    let n = least(least(b.len() / 136, count), 16);
-    let mut i = 0;
-    while i < n {
-        let op = cases::op_at(b, 136 * i);
-        out[i] = op;
-        i += 1;
-    }
-    out
 }

@@ -1,12 +1,13 @@
 // Loading of lent slices from the input.
-use crate::filling::fill_floats;
-use crate::filling::fill_words;
 use crate::input;
+use lent::fill_floats;
+use lent::fill_words;
+use lent::least;
 
 // Fills out with the first of n floats from the input, as far as they fit, and passes over the rest.
 pub fn load_floats(out: &mut [f64], n: usize) -> bool {
     fill_floats(out);
-    let k = input::least(n, out.len());
+    let k = least(n, out.len());
     if !input::floats(&mut out[..k]) {
         return false;
     }
@@ -16,7 +17,7 @@ pub fn load_floats(out: &mut [f64], n: usize) -> bool {
 // Fills out with the first of n numbers from the input, as far as they fit, and passes over the rest.
 pub fn load_words(out: &mut [u32], n: usize) -> bool {
     fill_words(out);
-    let k = input::least(n, out.len());
+    let k = least(n, out.len());
     if !input::words(&mut out[..k]) {
         return false;
     }

@@ -1,12 +1,15 @@
 // Writing to standard output, in blocks. Each function answers whether all was written.
-ghost use Prim.Native.Nat.{_+_, _≤_};
+ghost use mathlib.Core.Path.{_≡_};
+ghost use Prim.Native.Nat.{_+_, _≤_, min};
 ghost use lib.ListN.{length};
-use crate::input::least;
+use lent::least;
 use math::BoundingBox;
 use math::Vec3;
 
 // A count as a 32-bit number.
-pub fn count(n: usize) -> u32 {
+pub fn count(n: usize) -> u32
+    ensures { λ r. ⌜ r ≡ min n 4294967295 ⌝ }
+{
     if n < 4294967295 { n as u32 } else { 4294967295 }
 }
 

@@ -1,4 +1,5 @@
--- What several proofs of `cases` cite.
+-- What several proofs of `cases` cite, and those of `casehead`.
+pub mod Arms
 mod Loops
 mod Operations
 mod Heads

@@ -1,16 +1,14 @@
 -- The operation of each kind. Assumes nothing.
-use mathlib.Core.Path.{_≡_, sym, ap, _∙_}
+use mathlib.Core.Path.{_≡_}
 use mathlib.Core.List.{List}
 use Prim.Native.Nat.{ℕ}
 use borrow.Author.Tests.{ne-eqb}
 use Rattle.transform.specs.declared.TransformOp.{TransformOp}
 use Rattle.cases.specs.Layout.{opOfKind, matrixAt}
+use Rattle.cases.proofs.Arms.{of-kind, Not}
 
-pub of-kind : (b : List ℕ) (n j : ℕ) {k : ℕ} {r : TransformOp} → k ≡ j → r ≡ opOfKind j b n → r ≡ opOfKind k b n
-of-kind b n j h e = e ∙ sym (ap (λ (i : ℕ). opOfKind i b n) h)
-
-abbrev Not : ℕ → ℕ → Type 0
-Not k j = k ≡ j → ⊥
+pub of-op-kind : (b : List ℕ) (n j : ℕ) {k : ℕ} {r : TransformOp} → k ≡ j → r ≡ opOfKind j b n → r ≡ opOfKind k b n
+of-op-kind b n = of-kind (λ (i : ℕ). opOfKind i b n)
 
 pub other-kind : (b : List ℕ) (n : ℕ) {k : ℕ} {r : TransformOp}
     → ((((((Unit {0} × Not k 1) × Not k 2) × Not k 3) × Not k 4) × Not k 5) × Not k 6) × Not k 7 → r ≡ matrixAt b n → r ≡ opOfKind k b n

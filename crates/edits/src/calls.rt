@@ -1,13 +1,21 @@
 // The calls: each runs the library on the slices that it is lent, and writes the result.
+ghost use mathlib.Core.Path.{_≡_};
+ghost use lib.ListN.{length};
+ghost use Rattle.meshcheck.specs.State.{state};
+ghost use Rattle.mesh.specs.Edits.{appendOf, flipOf, transformOf};
+ghost use Rattle.clipping.specs.Outcome.{clipOutline};
+ghost use Rattle.edits.specs.Agreed.{agreedOf};
+ghost use Rattle.edits.specs.States.{claimed};
 use crate::written::edited;
-use casefile::filling::fill_words;
 use casefile::loading::load_floats;
 use casefile::loading::load_words;
 use casefile::output;
 use cases::Head;
+use lent::fill_words;
 use mesh::Edited;
 use mesh::TriMesh;
 use refusal::Refusal;
+use slices::wide;
 use transform::TransformOp;
 
 // The counts of A after a call, and whether its result was written.
@@ -16,12 +24,10 @@ pub struct Answer {
     pub written: bool,
 }
 
-fn wide(x: u32) -> usize {
-    x as usize
-}
-
 // Writes an edited mesh.
-fn answered(e: Edited, vertices: &[f64], triangles: &[u32]) -> Answer {
+fn answered(e: Edited, vertices: &[f64], triangles: &[u32]) -> Answer
+    ensures { λ r. ⌜ r .mesh ≡ e .mesh ⌝ }
+{
     let m = e.mesh;
     Answer {
         mesh: m,
@@ -29,7 +35,10 @@ fn answered(e: Edited, vertices: &[f64], triangles: &[u32]) -> Answer {
     }
 }
 
-pub fn clip(list: &[f64], triangles: &mut [u32]) -> bool {
+// Clips an outline. It answers whether the result was written.
+pub fn clip(list: &[f64], triangles: &mut [u32]) -> bool
+    ensures { λ _. ⌜ now (triangles .exit) ≡ clipOutline (now (list .entry)) (length (now (triangles .entry))) .slice ⌝ }
+{
     fill_words(triangles);
     let c = clipping::clip_outline(list, triangles);
     let why = c.refusal;
@@ -51,7 +60,10 @@ pub fn append(
     other: TriMesh,
     other_vertices: &[f64],
     other_triangles: &[u32],
-) -> Answer {
+) -> Answer
+    ensures { λ r. ⌜ state (r .mesh) (now (vertices .exit)) (now (triangles .exit))
+        ≡ appendOf (state m (now (vertices .entry)) (now (triangles .entry))) (state other (now («other_vertices» .entry)) (now («other_triangles» .entry))) .state ⌝ }
+{
     let e = mesh::append(
         m,
         vertices,
@@ -63,7 +75,9 @@ pub fn append(
     answered(e, vertices, triangles)
 }
 
-pub fn flip(m: TriMesh, vertices: &[f64], triangles: &mut [u32]) -> Answer {
+pub fn flip(m: TriMesh, vertices: &[f64], triangles: &mut [u32]) -> Answer
+    ensures { λ r. ⌜ state (r .mesh) (now (vertices .entry)) (now (triangles .exit)) ≡ flipOf (state m (now (vertices .entry)) (now (triangles .entry))) .state ⌝ }
+{
     let e = mesh::flip(m, vertices, triangles);
     answered(e, vertices, triangles)
 }
@@ -75,13 +89,18 @@ pub fn transform(
     ops: [TransformOp; 16],
     op_count: usize,
     degrees: bool,
-) -> Answer {
+) -> Answer
+    ensures { λ r. ⌜ state (r .mesh) (now (vertices .exit)) (now (triangles .exit))
+        ≡ transformOf ops «op_count» degrees (state m (now (vertices .entry)) (now (triangles .entry))) .state ⌝ }
+{
     let e = mesh::transform(m, vertices, triangles, ops, op_count, degrees);
     answered(e, vertices, triangles)
 }
 
 // The refusal that all four measures agree on, else 255.
-fn agreed(a: u32, b: u32, c: u32, d: u32) -> u32 {
+fn agreed(a: u32, b: u32, c: u32, d: u32) -> u32
+    ensures { λ r. ⌜ r ≡ agreedOf a b c d ⌝ }
+{
     if a != b {
         return 255;
     }
@@ -121,12 +140,21 @@ fn load_both(h: Head, vertices: &mut [f64], triangles: &mut [u32]) -> bool {
     load_words(triangles, wide(h.loaded_numbers))
 }
 
-// Loads a mesh from the input, with the counts claimed.
-pub fn load(h: Head, vertices: &mut [f64], triangles: &mut [u32]) -> Answer {
-    let m = TriMesh {
+// The counts that a case claims.
+fn claimed_mesh(h: Head) -> TriMesh
+    ensures { λ r. ⌜ r ≡ claimed h ⌝ }
+{
+    TriMesh {
         vertices: wide(h.vertex_count),
         triangles: wide(h.triangle_count),
-    };
+    }
+}
+
+// Loads a mesh from the input, with the counts claimed.
+pub fn load(h: Head, vertices: &mut [f64], triangles: &mut [u32]) -> Answer
+    ensures { λ r. ⌜ r .mesh ≡ claimed h ⌝ }
+{
+    let m = claimed_mesh(h);
     if !load_both(h, vertices, triangles) {
         return Answer {
             mesh: m,

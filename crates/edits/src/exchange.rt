@@ -1,32 +1,17 @@
 // Exchanging A and B.
+ghost use mathlib.Core.Path.{_≡_};
+ghost use Rattle.lent.specs.Swapped.{swapped};
 use crate::state::State;
-use casefile::input::least;
 use casefile::output;
-
-fn swap_floats(a: &mut [f64], b: &mut [f64]) {
-    let n = least(a.len(), b.len());
-    let mut i = 0;
-    while i < n {
-        let x = a[i];
-        a[i] = b[i];
-        b[i] = x;
-        i += 1;
-    }
-}
-
-fn swap_words(a: &mut [u32], b: &mut [u32]) {
-    let n = least(a.len(), b.len());
-    let mut i = 0;
-    while i < n {
-        let x = a[i];
-        a[i] = b[i];
-        b[i] = x;
-        i += 1;
-    }
-}
+use lent::swap_floats;
+use lent::swap_words;
 
 // 7: exchanges A and B, with the content of their arrays.
-pub fn exchange(s: State, va: &mut [f64], ta: &mut [u32], vb: &mut [f64], tb: &mut [u32]) -> State {
+pub fn exchange(s: State, va: &mut [f64], ta: &mut [u32], vb: &mut [f64], tb: &mut [u32]) -> State
+    ensures { λ r. ⌜ (r .a ≡ s .b) × (r .b ≡ s .a) ⌝ }
+    ensures { λ _. ⌜ (now (va .exit) ≡ swapped (now (vb .entry)) (now (va .entry))) × (now (vb .exit) ≡ swapped (now (va .entry)) (now (vb .entry))) ⌝ }
+    ensures { λ _. ⌜ (now (ta .exit) ≡ swapped (now (tb .entry)) (now (ta .entry))) × (now (tb .exit) ≡ swapped (now (ta .entry)) (now (tb .entry))) ⌝ }
+{
     swap_floats(va, vb);
     swap_words(ta, tb);
     let a = s.a;

@@ -11,5 +11,4 @@ pub use state::after;
 pub use state::begun;
 pub use state::stopped;
 pub use steps::call;
-pub use written::clear;
 pub use written::drawn;

@@ -1,4 +1,7 @@
 // The meshes A and B.
+ghost use mathlib.Core.Path.{_≡_};
+ghost use mathlib.Core.Bool.{false};
+ghost use Rattle.edits.specs.States.{noMesh, beginning, goingOn, afterCall};
 use crate::calls::Answer;
 use mesh::TriMesh;
 
@@ -16,7 +19,9 @@ pub struct State {
     pub going: bool,
 }
 
-fn empty() -> Held {
+fn empty() -> Held
+    ensures { λ r. ⌜ r ≡ noMesh ⌝ }
+{
     Held {
         mesh: TriMesh {
             vertices: 0,
@@ -28,7 +33,9 @@ fn empty() -> Held {
 }
 
 // Two empty meshes.
-pub fn begun() -> State {
+pub fn begun() -> State
+    ensures { λ r. ⌜ r ≡ beginning ⌝ }
+{
     State {
         a: empty(),
         b: empty(),
@@ -37,18 +44,24 @@ pub fn begun() -> State {
 }
 
 // The run goes on where the result was written.
-pub fn going(s: State, written: bool) -> State {
+pub fn going(s: State, written: bool) -> State
+    ensures { λ r. ⌜ r ≡ goingOn s written ⌝ }
+{
     let mut t = s;
     t.going = written;
     t
 }
 
-pub fn stopped(s: State) -> State {
+pub fn stopped(s: State) -> State
+    ensures { λ r. ⌜ r ≡ goingOn s false ⌝ }
+{
     going(s, false)
 }
 
 // A is what a call answered, in slices of these lengths.
-pub fn after(s: State, r: Answer, floats: usize, numbers: usize) -> State {
+pub fn after(s: State, r: Answer, floats: usize, numbers: usize) -> State
+    ensures { λ t. ⌜ t ≡ afterCall s r floats numbers ⌝ }
+{
     let m = r.mesh;
     let b = s.b;
     State {

@@ -5,14 +5,10 @@ use crate::state::State;
 use crate::state::after;
 use crate::state::going;
 use crate::state::stopped;
-use casefile::input::least;
 use cases::Head;
-use mesh::TriMesh;
+use lent::least;
+use slices::wide;
 use transform::TransformOp;
-
-fn wide(x: u32) -> usize {
-    x as usize
-}
 
 // 6: measures A.
 fn measure(s: State, va: &[f64], ta: &[u32]) -> State {

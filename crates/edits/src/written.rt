@@ -1,7 +1,6 @@
-// Writing of meshes, and the clearing of slices before a mesh is made in them.
+// Writing of meshes.
+ghost use mathlib.Core.Path.{_≡_};
 use crate::calls::Answer;
-use casefile::filling::fill_floats;
-use casefile::filling::fill_words;
 use casefile::output;
 use mesh::Edited;
 
@@ -22,13 +21,6 @@ pub fn edited(e: Edited, vertices: &[f64], triangles: &[u32]) -> bool {
     output::words(triangles)
 }
 
-// Fills the slices that a solid is drawn in.
-pub fn clear(vertices: &mut [f64], triangles: &mut [u32], work: &mut [u32]) {
-    fill_floats(vertices);
-    fill_words(triangles);
-    fill_words(work);
-}
-
 // The answer of a drawing: that of an edit, and the work slice.
 fn drawn_written(e: Edited, vertices: &[f64], triangles: &[u32], work: &[u32]) -> bool {
     if !edited(e, vertices, triangles) {
@@ -38,7 +30,9 @@ fn drawn_written(e: Edited, vertices: &[f64], triangles: &[u32], work: &[u32]) -
 }
 
 // Writes a drawn mesh.
-pub fn drawn(e: Edited, vertices: &[f64], triangles: &[u32], work: &[u32]) -> Answer {
+pub fn drawn(e: Edited, vertices: &[f64], triangles: &[u32], work: &[u32]) -> Answer
+    ensures { λ r. ⌜ r .mesh ≡ e .mesh ⌝ }
+{
     let m = e.mesh;
     Answer {
         mesh: m,

@@ -1,18 +1,15 @@
 // Call 1: the solid of a case.
-use casefile::Case;
-use casefile::input::least;
-use casefile::own_system;
-use casefile::system;
+use casehead::Case;
+use casehead::own_system;
+use casehead::system;
 use edits::Answer;
 use edits::State;
 use edits::after;
+use lent::least;
 use mesh::Edited;
 use shape::TessellationOptions;
+use slices::wide;
 use transform::TransformOp;
-
-fn wide(x: u32) -> usize {
-    x as usize
-}
 
 // The solid of a case in the lent slices.
 fn made(
@@ -61,7 +58,7 @@ fn drawn(
     work: &mut [u32],
     list: &[f64],
 ) -> Answer {
-    edits::clear(vertices, triangles, work);
+    lent::clear(vertices, triangles, work);
     let e = made(c, ops, vertices, triangles, work, list);
     edits::drawn(e, vertices, triangles, work)
 }

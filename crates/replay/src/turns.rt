@@ -1,6 +1,6 @@
 // The run: case by case.
 use crate::solid::tessellate;
-use casefile::Case;
+use casehead::Case;
 use edits::State;
 use transform::TransformOp;
 
@@ -36,7 +36,7 @@ fn step(
 ) -> State {
     let mut buf = [0u8; 65536];
     let next = casefile::next(&mut buf);
-    let ops = casefile::operations(next, &buf);
+    let ops = casehead::operations(next, &buf);
     let c = casefile::listed(next, list);
     call(s, c, ops, va, ta, vb, tb, work, list)
 }

@@ -8,7 +8,7 @@ use Rattle.casefile.proofs.input.floats_block.Tie as tie
 use Rattle.casefile.proofs.input.floats_block.Reads as reads
 use Rattle.casefile.proofs.input.floats_block.Lts as lts
 use Rattle.casefile.proofs.input.fill.Reads as fill-reads
-use Rattle.casefile.proofs.input.least.Reads as least-reads
+use Rattle.lent.proofs.least.Reads as least-reads
 use Rattle.cases.proofs.get_floats.Reads as get-floats-reads
 
 least-requires : tie.Need-least-requires

@@ -7,7 +7,7 @@ use Rattle.casefile.proofs.input.skip_block.Tie as tie
 use Rattle.casefile.proofs.input.skip_block.Reads as reads
 use Rattle.casefile.proofs.input.skip_block.Lts as lts
 use Rattle.casefile.proofs.input.fill.Reads as fill-reads
-use Rattle.casefile.proofs.input.least.Reads as least-reads
+use Rattle.lent.proofs.least.Reads as least-reads
 
 least-requires : tie.Need-least-requires
 least-requires c κs = search needs

@@ -8,7 +8,7 @@ use Rattle.casefile.proofs.input.words_block.Tie as tie
 use Rattle.casefile.proofs.input.words_block.Reads as reads
 use Rattle.casefile.proofs.input.words_block.Lts as lts
 use Rattle.casefile.proofs.input.fill.Reads as fill-reads
-use Rattle.casefile.proofs.input.least.Reads as least-reads
+use Rattle.lent.proofs.least.Reads as least-reads
 use Rattle.cases.proofs.get_words.Reads as get-words-reads
 
 least-requires : tie.Need-least-requires

@@ -6,9 +6,9 @@ use Rattle.casefile.proofs.loading.load_floats.Statement.{statement}
 use Rattle.casefile.proofs.loading.load_floats.Tie as tie
 use Rattle.casefile.proofs.loading.load_floats.Reads as reads
 use Rattle.casefile.proofs.loading.load_floats.Lts as lts
-use Rattle.casefile.proofs.filling.fill_floats.Reads as fill-floats-reads
+use Rattle.lent.proofs.fill_floats.Reads as fill-floats-reads
 use Rattle.casefile.proofs.input.floats.Reads as floats-reads
-use Rattle.casefile.proofs.input.least.Reads as least-reads
+use Rattle.lent.proofs.least.Reads as least-reads
 use Rattle.casefile.proofs.input.skip_floats.Reads as skip-floats-reads
 
 fill-floats-requires : tie.Need-fill-floats-requires

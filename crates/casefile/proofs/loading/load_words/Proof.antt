@@ -6,8 +6,8 @@ use Rattle.casefile.proofs.loading.load_words.Statement.{statement}
 use Rattle.casefile.proofs.loading.load_words.Tie as tie
 use Rattle.casefile.proofs.loading.load_words.Reads as reads
 use Rattle.casefile.proofs.loading.load_words.Lts as lts
-use Rattle.casefile.proofs.filling.fill_words.Reads as fill-words-reads
-use Rattle.casefile.proofs.input.least.Reads as least-reads
+use Rattle.lent.proofs.fill_words.Reads as fill-words-reads
+use Rattle.lent.proofs.least.Reads as least-reads
 use Rattle.casefile.proofs.input.skip_words.Reads as skip-words-reads
 use Rattle.casefile.proofs.input.words.Reads as words-reads
 

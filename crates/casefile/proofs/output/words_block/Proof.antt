@@ -6,7 +6,7 @@ use Rattle.casefile.proofs.output.words_block.Statement.{statement}
 use Rattle.casefile.proofs.output.words_block.Tie as tie
 use Rattle.casefile.proofs.output.words_block.Reads as reads
 use Rattle.casefile.proofs.output.words_block.Lts as lts
-use Rattle.casefile.proofs.input.least.Reads as least-reads
+use Rattle.lent.proofs.least.Reads as least-reads
 use Rattle.cases.proofs.put_words.Reads as put-words-reads
 use Rattle.io.proofs.write_all.Reads as write-all-reads
 

@@ -3,7 +3,7 @@ use denote.Ref.{now}
 use Prim.Native.Nat.{_+_}
 use Rattle.transform.specs.declared.TransformOp.the-variants.{Translate, RotateOrigin, RotateX, RotateY, RotateZ, Scale, Scale3}
 use Rattle.cases.specs.Layout.{opOfKind}
-use Rattle.cases.proofs.Operations.{of-kind, other-kind}
+use Rattle.cases.proofs.Operations.{of-op-kind, other-kind}
 use borrow.Author.Needs.{needs}
 use Rattle.cases.proofs.ops.op_at.Statement.{statement}
 use Rattle.cases.proofs.ops.op_at.Tie as tie
@@ -53,43 +53,43 @@ returns : tie.Need-returns
 unfolding opOfKind
 returns c =
     let s = c .before .before .before .before in
-    of-kind (now (s .args .b)) (s .args .at + 8) 1 (c .before .match .keys1) (λ i. Translate (c .vec-at .ensures i))
+    of-op-kind (now (s .args .b)) (s .args .at + 8) 1 (c .before .match .keys1) (λ i. Translate (c .vec-at .ensures i))
 
 returns-2 : tie.Need-returns-2
 unfolding opOfKind
 returns-2 c =
     let s = c .before .before .before .before .before in
-    of-kind (now (s .args .b)) (s .args .at + 8) 2 (c .before .before .match .keys2) (λ i. RotateOrigin (c .before .vec-at2 .ensures i) (c .float-at .ensures i))
+    of-op-kind (now (s .args .b)) (s .args .at + 8) 2 (c .before .before .match .keys2) (λ i. RotateOrigin (c .before .vec-at2 .ensures i) (c .float-at .ensures i))
 
 returns-3 : tie.Need-returns-3
 unfolding opOfKind
 returns-3 c =
     let s = c .before .before .before .before in
-    of-kind (now (s .args .b)) (s .args .at + 8) 3 (c .before .match .keys3) (λ i. RotateX (c .float-at2 .ensures i))
+    of-op-kind (now (s .args .b)) (s .args .at + 8) 3 (c .before .match .keys3) (λ i. RotateX (c .float-at2 .ensures i))
 
 returns-4 : tie.Need-returns-4
 unfolding opOfKind
 returns-4 c =
     let s = c .before .before .before .before in
-    of-kind (now (s .args .b)) (s .args .at + 8) 4 (c .before .match .keys4) (λ i. RotateY (c .float-at3 .ensures i))
+    of-op-kind (now (s .args .b)) (s .args .at + 8) 4 (c .before .match .keys4) (λ i. RotateY (c .float-at3 .ensures i))
 
 returns-5 : tie.Need-returns-5
 unfolding opOfKind
 returns-5 c =
     let s = c .before .before .before .before in
-    of-kind (now (s .args .b)) (s .args .at + 8) 5 (c .before .match .keys5) (λ i. RotateZ (c .float-at4 .ensures i))
+    of-op-kind (now (s .args .b)) (s .args .at + 8) 5 (c .before .match .keys5) (λ i. RotateZ (c .float-at4 .ensures i))
 
 returns-6 : tie.Need-returns-6
 unfolding opOfKind
 returns-6 c =
     let s = c .before .before .before .before in
-    of-kind (now (s .args .b)) (s .args .at + 8) 6 (c .before .match .keys6) (λ i. Scale (c .float-at5 .ensures i))
+    of-op-kind (now (s .args .b)) (s .args .at + 8) 6 (c .before .match .keys6) (λ i. Scale (c .float-at5 .ensures i))
 
 returns-7 : tie.Need-returns-7
 unfolding opOfKind
 returns-7 c =
     let s = c .before .before .before .before in
-    of-kind (now (s .args .b)) (s .args .at + 8) 7 (c .before .match .keys7) (λ i. Scale3 (c .vec-at3 .ensures i))
+    of-op-kind (now (s .args .b)) (s .args .at + 8) 7 (c .before .match .keys7) (λ i. Scale3 (c .vec-at3 .ensures i))
 
 returns-8 : tie.Need-returns-8
 returns-8 c =

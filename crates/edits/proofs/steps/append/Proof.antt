@@ -6,7 +6,7 @@ use Rattle.edits.proofs.steps.append.Statement.{statement}
 use Rattle.edits.proofs.steps.append.Tie as tie
 use Rattle.edits.proofs.steps.append.Reads as reads
 use Rattle.edits.proofs.steps.append.Lts as lts
-use Rattle.casefile.proofs.input.least.Reads as least-reads
+use Rattle.lent.proofs.least.Reads as least-reads
 use Rattle.edits.proofs.calls.append.Reads as append-reads
 use Rattle.edits.proofs.state.after.Reads as after-reads
 

@@ -6,10 +6,10 @@ use Rattle.edits.proofs.steps.clip.Statement.{statement}
 use Rattle.edits.proofs.steps.clip.Tie as tie
 use Rattle.edits.proofs.steps.clip.Reads as reads
 use Rattle.edits.proofs.steps.clip.Lts as lts
-use Rattle.casefile.proofs.input.least.Reads as least-reads
+use Rattle.lent.proofs.least.Reads as least-reads
 use Rattle.edits.proofs.calls.clip.Reads as clip-reads
 use Rattle.edits.proofs.state.going.Reads as going-reads
-use Rattle.edits.proofs.steps.wide.Reads as wide-reads
+use Rattle.slices.proofs.wide.Reads as wide-reads
 
 wide-requires : tie.Need-wide-requires
 wide-requires c κs = search needs

@@ -6,7 +6,7 @@ use Rattle.edits.proofs.steps.flip.Statement.{statement}
 use Rattle.edits.proofs.steps.flip.Tie as tie
 use Rattle.edits.proofs.steps.flip.Reads as reads
 use Rattle.edits.proofs.steps.flip.Lts as lts
-use Rattle.casefile.proofs.input.least.Reads as least-reads
+use Rattle.lent.proofs.least.Reads as least-reads
 use Rattle.edits.proofs.calls.flip.Reads as flip-reads
 use Rattle.edits.proofs.state.after.Reads as after-reads
 

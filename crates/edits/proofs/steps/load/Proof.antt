@@ -6,10 +6,10 @@ use Rattle.edits.proofs.steps.load.Statement.{statement}
 use Rattle.edits.proofs.steps.load.Tie as tie
 use Rattle.edits.proofs.steps.load.Reads as reads
 use Rattle.edits.proofs.steps.load.Lts as lts
-use Rattle.casefile.proofs.input.least.Reads as least-reads
+use Rattle.lent.proofs.least.Reads as least-reads
 use Rattle.edits.proofs.calls.load.Reads as load-reads
 use Rattle.edits.proofs.state.after.Reads as after-reads
-use Rattle.edits.proofs.steps.wide.Reads as wide-reads
+use Rattle.slices.proofs.wide.Reads as wide-reads
 
 wide-requires : tie.Need-wide-requires
 wide-requires c κs = search needs

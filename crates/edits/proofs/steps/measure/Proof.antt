@@ -6,7 +6,7 @@ use Rattle.edits.proofs.steps.measure.Statement.{statement}
 use Rattle.edits.proofs.steps.measure.Tie as tie
 use Rattle.edits.proofs.steps.measure.Reads as reads
 use Rattle.edits.proofs.steps.measure.Lts as lts
-use Rattle.casefile.proofs.input.least.Reads as least-reads
+use Rattle.lent.proofs.least.Reads as least-reads
 use Rattle.edits.proofs.calls.measure.Reads as measure-reads
 use Rattle.edits.proofs.state.going.Reads as going-reads
 

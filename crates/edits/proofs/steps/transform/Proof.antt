@@ -6,10 +6,10 @@ use Rattle.edits.proofs.steps.transform.Statement.{statement}
 use Rattle.edits.proofs.steps.transform.Tie as tie
 use Rattle.edits.proofs.steps.transform.Reads as reads
 use Rattle.edits.proofs.steps.transform.Lts as lts
-use Rattle.casefile.proofs.input.least.Reads as least-reads
+use Rattle.lent.proofs.least.Reads as least-reads
 use Rattle.edits.proofs.calls.transform.Reads as transform-reads
 use Rattle.edits.proofs.state.after.Reads as after-reads
-use Rattle.edits.proofs.steps.wide.Reads as wide-reads
+use Rattle.slices.proofs.wide.Reads as wide-reads
 
 least-requires : tie.Need-least-requires
 least-requires c κs = search needs

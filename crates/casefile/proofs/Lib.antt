@@ -1,2 +1,0 @@
--- Laws that the proofs of `casefile` use.
-pub mod ByKind

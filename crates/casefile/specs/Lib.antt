@@ -1,3 +1,0 @@
--- What the contracts of `casefile` cite.
-pub mod Filling
-pub mod Shapes

@@ -1,0 +1,3 @@
+-- Laws that the proofs of `casehead` use.
+mod ByKind
+mod Reading

@@ -1,0 +1,3 @@
+-- What the contracts of `edits` cite.
+pub mod Agreed
+pub mod States

@@ -1,0 +1,2 @@
+-- Laws that the proofs of `lent` use.
+mod Swapping

@@ -1,0 +1,3 @@
+-- What the contracts of `lent` cite.
+pub mod Filling
+pub mod Swapped
