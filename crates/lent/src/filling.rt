@@ -24,7 +24,7 @@ pub fn fill_floats(out: &mut [f64])
 }
 
 // Fills the slices that a solid is drawn in.
-pub fn clear(vertices: &mut [f64], triangles: &mut [u32], work: &mut [u32])
+pub fn fill_slices(vertices: &mut [f64], triangles: &mut [u32], work: &mut [u32])
     ensures { λ _. ⌜ (now (vertices .exit) ≡ filled floatA5 (now (vertices .entry)))
         × (now (triangles .exit) ≡ filled wordA5 (now (triangles .entry)))
         × (now (work .exit) ≡ filled wordA5 (now (work .entry))) ⌝ }

@@ -4,8 +4,8 @@ mod float_exchange;
 mod lengths;
 mod word_exchange;
 
-pub use filling::clear;
 pub use filling::fill_floats;
+pub use filling::fill_slices;
 pub use filling::fill_words;
 pub use float_exchange::swap_floats;
 pub use lengths::least;

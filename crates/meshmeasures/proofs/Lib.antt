@@ -1,2 +1,2 @@
--- Laws that several proofs of this crate use, and one of `finish`.
+-- Laws that several proofs of this crate use, and some of `finish`.
 pub mod Readings

@@ -58,7 +58,7 @@ fn drawn(
     work: &mut [u32],
     list: &[f64],
 ) -> Answer {
-    lent::clear(vertices, triangles, work);
+    lent::fill_slices(vertices, triangles, work);
     let e = made(c, ops, vertices, triangles, work, list);
     edits::drawn(e, vertices, triangles, work)
 }
