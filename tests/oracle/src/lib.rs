@@ -1,4 +1,4 @@
-//! The Rust as judge: case files in, the reference's results out. The format is CASES.md's; docs/DECISIONS.md has its readings.
+//! The Rust as judge: case files in, the reference's results out. The format is in tests/README.md; docs/DECISIONS.md has its readings.
 pub mod calls;
 pub mod case;
 pub mod closed;
