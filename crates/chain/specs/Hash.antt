@@ -13,16 +13,24 @@ use Rattle.chain.specs.declared.Found.the-variants.{At, Missing}
 use Rattle.trimesh.specs.Slices.{vertexAt}
 use Rattle.stored.specs.Points.{Clean, placed}
 
--- one coordinate's bits, their halves multiplied apart
+-- a number's halves, multiplied apart
 unfoldable pub spreadOf : ℕ → ℕ → ℕ → ℕ
-spreadOf bits low high = (bits % 4294967296 * low + bits / 4294967296 * high) / 2147483648
+spreadOf bits low high = bits % 4294967296 * low + bits / 4294967296 * high
 
--- the bucket of a point
+-- the middle bits of the product of a number's halves
+unfoldable pub middleOf : ℕ → ℕ
+middleOf t = t % 4294967296 * (t / 4294967296 + 1905421161) / 65536 % 4294967296
+
+-- the bits of a point's coordinates in one number
+unfoldable pub sumOf : Vec3 → ℕ
+sumOf p =
+    spreadOf (toBits binary64 (p .x)) 435250745 462664305
+    + spreadOf (toBits binary64 (p .y)) 475705909 453967447
+    + spreadOf (toBits binary64 (p .z)) 534814063 531086897
+
+-- the bucket of a point: every bit of the coordinates reaches every bit of the 32 that are scaled to the places
 unfoldable pub bucketOf : ℕ → Vec3 → ℕ
-bucketOf places p =
-    (spreadOf (toBits binary64 (p .x)) 1640531527 2097192037
-    + spreadOf (toBits binary64 (p .y)) 1540483477 1566083941
-    + spreadOf (toBits binary64 (p .z)) 1181783497 2027808485) % 4294967296 * places / 4294967296
+bucketOf places p = middleOf (spreadOf (sumOf p) 1721092421 1) * places / 4294967296
 
 -- one more than the largest m below n whose vertex is in the bucket b, or 0
 unfoldable pub latest : ℕ → List Float → ℕ → ℕ → ℕ

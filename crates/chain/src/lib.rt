@@ -3,7 +3,7 @@ ghost use mathlib.Core.Path.{_≡_};
 ghost use Prim.Native.Nat.{_+_, _*_, _<_, _≤_, _^_};
 ghost use lib.ListN.{length};
 ghost use Rattle.stored.specs.Points.{Clean};
-ghost use Rattle.chain.specs.Hash.{spreadOf, bucketOf, Stored, Chained, linkedIn, Sought, Placing};
+ghost use Rattle.chain.specs.Hash.{spreadOf, middleOf, bucketOf, Stored, Chained, linkedIn, Sought, Placing};
 use math::Vec3;
 
 // What a look-up finds: the number of a vertex, or none.
@@ -19,24 +19,32 @@ fn wide(x: u32) -> usize
     x as usize
 }
 
-// One coordinate's bits, their halves multiplied apart, so that no sum wraps.
+// A number's halves, multiplied apart, so that no product wraps.
 fn spread(bits: u64, low: u64, high: u64) -> u64
-    requires { ⌜ (low < 2 ^ 31) × (high < 2 ^ 31) ⌝ }
-    ensures { λ r. ⌜ (r ≡ spreadOf bits low high) × (r < 2 ^ 33) ⌝ }
+    requires { ⌜ low + high < 2 ^ 32 ⌝ }
+    ensures { λ r. ⌜ (r ≡ spreadOf bits low high) × (r ≤ (low + high) * 4294967295) ⌝ }
 {
-    (bits % 4294967296 * low + bits / 4294967296 * high) / 2147483648
+    bits % 4294967296 * low + bits / 4294967296 * high
 }
 
-// The bucket of a point.
+// The middle bits of the product of a number's halves.
+fn middle(t: u64) -> u64
+    requires { ⌜ t < 2 ^ 63 ⌝ }
+    ensures { λ r. ⌜ (r ≡ middleOf t) × (r < 2 ^ 32) ⌝ }
+{
+    t % 4294967296 * (t / 4294967296 + 1905421161) / 65536 % 4294967296
+}
+
+// The bucket of a point. Coordinates that differ in their last bits only have far buckets too: each bit reaches every bit.
 fn bucket_of(p: Vec3, places: usize) -> usize
     requires { ⌜ (0 < places) × (places < 2 ^ 32) × Clean p ⌝ }
     ensures { λ r. ⌜ (r ≡ bucketOf places p) × (r < places) ⌝ }
 {
-    let a = spread(f64::to_bits(p.x), 1640531527, 2097192037);
-    let b = spread(f64::to_bits(p.y), 1540483477, 1566083941);
-    let c = spread(f64::to_bits(p.z), 1181783497, 2027808485);
-    let sum = (a + b + c) % 4294967296;
-    (sum as usize) * places / 4294967296
+    let a = spread(f64::to_bits(p.x), 435250745, 462664305);
+    let b = spread(f64::to_bits(p.y), 475705909, 453967447);
+    let c = spread(f64::to_bits(p.z), 534814063, 531086897);
+    let mixed = middle(spread(a + b + c, 1721092421, 1));
+    (mixed as usize) * places / 4294967296
 }
 
 // The first of the vertices from `base` below `count` that equals p. Vertices below `base` are of earlier parts.

@@ -9,43 +9,43 @@ use Rattle.chain.specs.Hash.{spreadOf}
 use Rattle.chain.proofs.spread.Statement.{statement}
 use Rattle.chain.proofs.spread.Tie as tie
 
--- a half times a multiplier
-scaled : (a k : ℕ) → a < 2 ^ 32 → k < 2 ^ 31 → a * k ≤ 4294967295 * 2147483647
-scaled a k p q = let s : a * k ≤ 4294967295 * k = mul-le-mul-right k (omega arith) in omega arith
+module _ (bits low high : ℕ) (b : bits < 2 ^ 64) where
+  lows : bits % 4294967296 * low ≤ 4294967295 * low
+  lows = mul-le-mul-right low (omega arith)
 
-module _ (bits low high : ℕ) (b : bits < 2 ^ 64) (l : low < 2 ^ 31) (h : high < 2 ^ 31) where
-  lows : bits % 4294967296 * low ≤ 4294967295 * 2147483647
-  lows = scaled (bits % 4294967296) low (omega arith) l
+  highs : bits / 4294967296 * high ≤ 4294967295 * high
+  highs = mul-le-mul-right high (omega arith)
 
-  highs : bits / 4294967296 * high ≤ 4294967295 * 2147483647
-  highs = scaled (bits / 4294967296) high (omega arith) h
+-- products of halves by small multipliers, and their sum
+fits-low : (x low high : ℕ) → x ≤ 4294967295 * low → low + high < 2 ^ 32 → Fits w64 x
+fits-low x low high h k = omega arith
 
-fits-product : (x : ℕ) → x ≤ 4294967295 * 2147483647 → Fits w64 x
-fits-product x h = omega arith
+fits-high : (x low high : ℕ) → x ≤ 4294967295 * high → low + high < 2 ^ 32 → Fits w64 x
+fits-high x low high h k = omega arith
 
-fits-sum : (x y : ℕ) → x ≤ 4294967295 * 2147483647 → y ≤ 4294967295 * 2147483647 → Fits w64 (x + y)
-fits-sum x y h k = omega arith
+fits-sum : (x y low high : ℕ) → x ≤ 4294967295 * low → y ≤ 4294967295 * high → low + high < 2 ^ 32 → Fits w64 (x + y)
+fits-sum x y low high h k l = omega arith
 
-small : (x y : ℕ) → x ≤ 4294967295 * 2147483647 → y ≤ 4294967295 * 2147483647 → (x + y) / 2147483648 < 2 ^ 33
-small x y h k = omega arith
+small : (x y low high : ℕ) → x ≤ 4294967295 * low → y ≤ 4294967295 * high → x + y ≤ (low + high) * 4294967295
+small x y low high h k = omega arith
 
 mul-result : tie.Need-mul-result
-mul-result c = fits-product _ (lows (c .args .bits) (c .args .low) (c .args .high) (c .fits .bits .fits) (c .pre .0) (c .pre .1))
+mul-result c = fits-low _ (c .args .low) (c .args .high) (lows (c .args .bits) (c .args .low) (c .args .high) (c .fits .bits .fits)) (c .pre)
 
 mul-result-2 : tie.Need-mul-result-2
-mul-result-2 c = fits-product _ (highs (c .args .bits) (c .args .low) (c .args .high) (c .fits .bits .fits) (c .pre .0) (c .pre .1))
+mul-result-2 c = fits-high _ (c .args .low) (c .args .high) (highs (c .args .bits) (c .args .low) (c .args .high) (c .fits .bits .fits)) (c .pre)
 
 add-result : tie.Need-add-result
 add-result c =
-    fits-sum _ _ (lows (c .args .bits) (c .args .low) (c .args .high) (c .fits .bits .fits) (c .pre .0) (c .pre .1))
-    (highs (c .args .bits) (c .args .low) (c .args .high) (c .fits .bits .fits) (c .pre .0) (c .pre .1))
+    fits-sum _ _ (c .args .low) (c .args .high) (lows (c .args .bits) (c .args .low) (c .args .high) (c .fits .bits .fits))
+    (highs (c .args .bits) (c .args .low) (c .args .high) (c .fits .bits .fits)) (c .pre)
 
 returns : tie.Need-returns
 unfolding spreadOf
 returns c = (
   refl,
-  small _ _ (lows (c .args .bits) (c .args .low) (c .args .high) (c .fits .bits .fits) (c .pre .0) (c .pre .1))
-      (highs (c .args .bits) (c .args .low) (c .args .high) (c .fits .bits .fits) (c .pre .0) (c .pre .1)),
+  small _ _ (c .args .low) (c .args .high) (lows (c .args .bits) (c .args .low) (c .args .high) (c .fits .bits .fits))
+      (highs (c .args .bits) (c .args .low) (c .args .high) (c .fits .bits .fits)),
 )
 
 pub spread-spec : {M : Type 1} → statement M
