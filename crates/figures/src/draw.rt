@@ -32,7 +32,7 @@ fn drawn(
     );
     let why = t.refusal;
     let m = t.mesh;
-    text::counts(refusal::number(why), m);
+    figures_text::counts(refusal::number(why), m);
     m
 }
 
@@ -58,7 +58,7 @@ fn counted(shape: Shape, options: TessellationOptions, op: TransformOp, count: u
     let mut vertices = [0.0; 3078];
     let mut triangles = [0u32; 6144];
     drawn(shape, options, op, count, &mut vertices, &mut triangles);
-    text::bytes(b"\n");
+    figures_text::bytes(b"\n");
 }
 
 // The counts of a shape.

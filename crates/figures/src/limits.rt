@@ -1,7 +1,7 @@
 // The last input that is taken, and the first that is refused.
 use crate::draw;
 use crate::solids;
-use lines::titles;
+use figures_lines::titles;
 use shape::Shape;
 use transform::TransformOp;
 
@@ -25,13 +25,13 @@ fn segments() {
 
 fn angles() {
     // 1000.0 has the bits 408F400000000000.
-    let next = words::from_bits(0x408F400000000001);
+    let next = slice_bytes::from_bits(0x408F400000000001);
     turned(b"1000", 1000.0);
     turned(b"the float after 1000", next);
 }
 
 fn wide_box() {
-    text::bytes(b"box (-1e308,0,0) to (1e308,1,1): ");
+    figures_text::bytes(b"box (-1e308,0,0) to (1e308,1,1): ");
     let shape = Shape::Box {
         start: solids::at(-1e308, 0.0, 0.0),
         stop: solids::at(1e308, 1.0, 1.0),
@@ -40,11 +40,11 @@ fn wide_box() {
 }
 
 fn seven_places() {
-    text::bytes(b"box (0,0,0) to (1,2,3) in 7 vertex places: ");
+    figures_text::bytes(b"box (0,0,0) to (1,2,3) in 7 vertex places: ");
     let mut v = [0.0; 21];
     let mut t = [0u32; 36];
     draw::draw(first_box(), 32, 16, &mut v, &mut t);
-    text::bytes(b"\n");
+    figures_text::bytes(b"\n");
 }
 
 pub fn all() {

@@ -5,8 +5,8 @@ mod solids;
 
 fn main() {
     solids::boxes();
-    lines::outlines::all();
-    lines::numbers::all();
+    figures_lines::outlines::all();
+    figures_lines::numbers::all();
     solids::spheres();
     solids::cylinders();
     limits::all();

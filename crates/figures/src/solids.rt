@@ -1,7 +1,7 @@
 // The solids with their counts.
 use crate::draw;
-use lines::solids;
-use lines::titles;
+use figures_lines::solids;
+use figures_lines::titles;
 use math::Vec3;
 use shape::Shape;
 
@@ -43,7 +43,7 @@ pub fn sphere(center: Vec3, name: &[u8], radius: f64, segments: usize, rings: us
 
 pub fn spheres() {
     let origin = at(0.0, 0.0, 0.0);
-    let least = words::from_bits(1);
+    let least = slice_bytes::from_bits(1);
     sphere(origin, b"0", 0.0, 32, 16);
     sphere(origin, b"1", 1.0, 3, 2);
     sphere(origin, b"1", 1.0, 32, 16);
@@ -78,8 +78,8 @@ fn wide_cylinder(v: &[f64], t: &[u32]) {
     let mut vertices = [0.0; 24];
     let mut triangles = [0u32; 36];
     cylinder(2.5, &mut vertices, &mut triangles);
-    if same::floats(v, &vertices) & same::numbers(t, &triangles) {
-        text::bytes(b"  the same mesh as the last one\n");
+    if figures_same::floats(v, &vertices) & figures_same::numbers(t, &triangles) {
+        figures_text::bytes(b"  the same mesh as the last one\n");
     }
 }
 

@@ -10,16 +10,16 @@ use borrow.Author.Tests.{ltb-false}
 use Rattle.math.specs.Vec.{vFinite}
 use Rattle.transform.specs.declared.TransformOp.{TransformOp}
 use Rattle.transform.specs.Checks.{opCountWithin, opsFinite, opsAnglesWithin}
-use Rattle.trimesh.specs.Mesh.{append}
+use Rattle.mesh_spec.specs.Mesh.{append}
 use Rattle.refusal.specs.declared.Refusal.{Refusal}
 use Rattle.refusal.specs.declared.Refusal.the-variants.{Accepted, NotFinite, AngleTooLarge, BadList, PointNotFinite, NoRoom, BadMesh}
-use Rattle.slices.specs.Every.{wholePlaces, every}
-use Rattle.meshcheck.specs.State.{State, meshOf, badMesh, notFinite, isAccepted, Sound}
-use Rattle.affine.specs.Affine.{FiniteVertices}
-use Rattle.appendcheck.specs.Append.{noRoom, appendRefusal}
-use Rattle.movecheck.specs.Transform.{transformed, transformRefusal}
-use Rattle.meshcheck.proofs.Sound.{not-bad, sound, finite-vertices, places-three, places-limit, neither}
-use Rattle.meshcheck.proofs.Stored.{appended-vertices, appended-triangles}
+use Rattle.slice.specs.Every.{wholePlaces, every}
+use Rattle.mesh_check.specs.State.{State, meshOf, badMesh, notFinite, isAccepted, Sound}
+use Rattle.mesh_move_affine.specs.Affine.{FiniteVertices}
+use Rattle.mesh_append_check.specs.Append.{noRoom, appendRefusal}
+use Rattle.mesh_transform_check.specs.Transform.{transformed, transformRefusal}
+use Rattle.mesh_check.proofs.Sound.{not-bad, sound, finite-vertices, places-three, places-limit, neither}
+use Rattle.mesh_check.proofs.Stored.{appended-vertices, appended-triangles}
 
 last : (a b c : Bool) → isAccepted (cond a BadMesh (cond b NotFinite (cond c NoRoom Accepted))) ≡ true → c ≡ false
 last true b c e = absurd (false≢true e)

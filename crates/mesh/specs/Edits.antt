@@ -4,10 +4,10 @@ use mathlib.Core.List.{List}
 use Prim.Native.Nat.{ℕ}
 use lib.Dec.{eqb}
 use Rattle.transform.specs.declared.TransformOp.{TransformOp}
-use Rattle.trimesh.specs.Mesh.{append, flip}
-use Rattle.meshcheck.specs.State.{State, meshOf, stored, checkOf}
-use Rattle.appendcheck.specs.Append.{appendRefusal}
-use Rattle.movecheck.specs.Transform.{transformed, transformRefusal}
+use Rattle.mesh_spec.specs.Mesh.{append, flip}
+use Rattle.mesh_check.specs.State.{State, meshOf, stored, checkOf}
+use Rattle.mesh_append_check.specs.Append.{appendRefusal}
+use Rattle.mesh_transform_check.specs.Transform.{transformed, transformRefusal}
 use Rattle.mesh.specs.Outcome.{Outcome, edited}
 
 -- `append` of the second mesh to the first

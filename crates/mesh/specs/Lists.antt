@@ -6,21 +6,21 @@ use mathlib.Core.List.{List, [], _∷_}
 use Prim.Native.Nat.{ℕ}
 use lib.ListN.{take}
 use lib.Dec.{eqb}
-use Rattle.matrix.specs.declared.Mat4.{Mat4}
+use Rattle.math_matrix.specs.declared.Mat4.{Mat4}
 use Rattle.transform.specs.declared.TransformOp.{TransformOp}
 use Rattle.transform.specs.Ops.{folded}
-use Rattle.trimesh.specs.Mesh.{Mesh, append, flip}
-use Rattle.trimesh.specs.Edits.{transform}
-use Rattle.trimesh.specs.Closed.{Closed, NoneTwice, AllThere}
-use Rattle.trimesh.specs.ClosedLaws.{append-closed, flip-closed, transform-closed}
-use Rattle.trimesh.specs.ProperLaws.{append-none-twice, flip-none-twice, transform-none-twice, append-all-there, flip-all-there, transform-all-there}
+use Rattle.mesh_spec.specs.Mesh.{Mesh, append, flip}
+use Rattle.mesh_spec.specs.Edits.{transform}
+use Rattle.mesh_spec.specs.Closed.{Closed, NoneTwice, AllThere}
+use Rattle.mesh_spec.specs.ClosedLaws.{append-closed, flip-closed, transform-closed}
+use Rattle.mesh_spec.specs.ProperLaws.{append-none-twice, flip-none-twice, transform-none-twice, append-all-there, flip-all-there, transform-all-there}
 use Rattle.refusal.specs.declared.Refusal.{Refusal}
 use Rattle.refusal.specs.declared.Refusal.the-variants.{Accepted, NotFinite, AngleTooLarge, TooManySegments, BadList, PointNotFinite, ShortWork, NoRoom, BadMesh}
-use Rattle.meshcheck.specs.State.{State, meshOf, stored, checkOf, isAccepted}
+use Rattle.mesh_check.specs.State.{State, meshOf, stored, checkOf, isAccepted}
 use Rattle.mesh.specs.Outcome.{Outcome, edited}
-use Rattle.meshcheck.specs.StateLaws.{mesh-stored}
-use Rattle.appendcheck.specs.Append.{appendRefusal}
-use Rattle.movecheck.specs.Transform.{transformed, transformRefusal}
+use Rattle.mesh_check.specs.StateLaws.{mesh-stored}
+use Rattle.mesh_append_check.specs.Append.{appendRefusal}
+use Rattle.mesh_transform_check.specs.Transform.{transformed, transformRefusal}
 use Rattle.mesh.specs.Edits.{appendOf, flipOf, transformOf}
 
 -- ---- the statement

@@ -1,9 +1,9 @@
 // The edits of a mesh.
-ghost use Rattle.meshcheck.specs.State.{state};
+ghost use Rattle.mesh_check.specs.State.{state};
 ghost use Rattle.mesh.specs.Outcome.{Gives};
 ghost use Rattle.mesh.specs.Edits.{appendOf, flipOf, transformOf};
 use crate::Edited;
-use meshcheck::TriMesh;
+use mesh_check::TriMesh;
 use transform::TransformOp;
 
 // Appends the other mesh, which lies in other slices: its vertices follow, and its numbers go up by the vertex count.
@@ -23,7 +23,7 @@ pub fn append(
     let k = mesh.triangles;
     let more_n = other.vertices;
     let more_k = other.triangles;
-    let refusal = appendcheck::append_refusal(
+    let refusal = mesh_append_check::append_refusal(
         mesh,
         vertices,
         triangles,
@@ -31,11 +31,11 @@ pub fn append(
         other_vertices,
         other_triangles,
     );
-    if !meshcheck::accepted(refusal) {
+    if !mesh_check::accepted(refusal) {
         return Edited { refusal, mesh };
     }
-    writes::copy(vertices, 3 * n, other_vertices, 3 * more_n);
-    writes::copy_up(triangles, 3 * k, other_triangles, 3 * more_k, n as u32);
+    mesh_write::copy(vertices, 3 * n, other_vertices, 3 * more_n);
+    mesh_write::copy_up(triangles, 3 * k, other_triangles, 3 * more_k, n as u32);
     Edited {
         refusal,
         mesh: TriMesh {
@@ -50,11 +50,11 @@ pub fn flip(mesh: TriMesh, vertices: &[f64], triangles: &mut [u32]) -> Edited
     ensures { λ r. ⌜ Gives (flipOf (state mesh (now (vertices .entry)) (now (triangles .entry)))) r (now (vertices .entry)) (now (triangles .exit)) ⌝ }
 {
     let k = mesh.triangles;
-    let refusal = meshcheck::check(mesh, vertices, triangles);
-    if !meshcheck::accepted(refusal) {
+    let refusal = mesh_check::check(mesh, vertices, triangles);
+    if !mesh_check::accepted(refusal) {
         return Edited { refusal, mesh };
     }
-    writes::turn_all(triangles, k);
+    mesh_write::turn_all(triangles, k);
     Edited { refusal, mesh }
 }
 
@@ -71,17 +71,24 @@ pub fn transform(
 {
     let n = mesh.vertices;
     let k = mesh.triangles;
-    let refusal = movecheck::transform_refusal(mesh, vertices, triangles, ops, op_count, degrees);
-    if !meshcheck::accepted(refusal) {
+    let refusal = mesh_transform_check::transform_refusal(
+        mesh,
+        vertices,
+        triangles,
+        ops,
+        op_count,
+        degrees,
+    );
+    if !mesh_check::accepted(refusal) {
         return Edited { refusal, mesh };
     }
     if op_count == 0 {
         return Edited { refusal, mesh };
     }
     let a = transform::fold(ops, op_count, degrees);
-    moves::move_finite(vertices, n, a);
-    if mapping::determinant(a) < 0.0 {
-        writes::turn_all(triangles, k);
+    mesh_move::move_finite(vertices, n, a);
+    if math_matrix_map::determinant(a) < 0.0 {
+        mesh_write::turn_all(triangles, k);
         return Edited { refusal, mesh };
     }
     Edited { refusal, mesh }

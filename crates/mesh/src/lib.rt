@@ -5,13 +5,13 @@ mod edit;
 pub use edit::append;
 pub use edit::flip;
 pub use edit::transform;
-pub use meshcheck::TriMesh;
-pub use meshmeasures::Boxed;
-pub use meshmeasures::Measured;
-pub use meshmeasures::area;
-pub use meshmeasures::bounding_box;
-pub use meshmeasures::enclosed_volume;
-pub use meshmeasures::signed_volume;
+pub use mesh_check::TriMesh;
+pub use mesh_measures::Boxed;
+pub use mesh_measures::Measured;
+pub use mesh_measures::area;
+pub use mesh_measures::bounding_box;
+pub use mesh_measures::enclosed_volume;
+pub use mesh_measures::signed_volume;
 use refusal::Refusal;
 
 // What an edit answers: refused or accepted, and the counts after it.

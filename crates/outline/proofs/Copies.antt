@@ -9,7 +9,7 @@ use native.Mathlib.Omega.{arith}
 use lib.ListN.{length, getD, take, drop, replicate, length-drop, length-append, take-append-drop}
 use lib.Seq.{drop-cons, length-take-le, take-at, drop-at}
 use lib.Ieee.{Float, nan, binary64, lt, ofBits}
-use Rattle.slices.specs.Cleared.{clearedFrom}
+use Rattle.slice.specs.Cleared.{clearedFrom}
 use Rattle.outline.specs.Corners.{point, padded}
 use Rattle.outline.specs.Clean.{cleanPolygon}
 use Rattle.outline.specs.Area.{signedArea}

@@ -115,6 +115,6 @@ pub fn clean_polygon(v: &[f64], out: &mut [f64]) -> usize
 {
     let m = gather(v, out);
     let n = stay(out, m);
-    slices::clear_floats(out, 2 * n);
+    slice::clear_floats(out, 2 * n);
     n
 }

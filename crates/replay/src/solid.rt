@@ -1,14 +1,14 @@
 // Call 1: the solid of a case.
-use casehead::Case;
-use casehead::own_system;
-use casehead::system;
-use edits::Answer;
-use edits::State;
-use edits::after;
-use lent::least;
 use mesh::Edited;
+use replay_calls::Answer;
+use replay_calls::State;
+use replay_calls::after;
+use replay_head::Case;
+use replay_head::own_system;
+use replay_head::system;
+use replay_slices::least;
 use shape::TessellationOptions;
-use slices::wide;
+use slice::wide;
 use transform::TransformOp;
 
 // The solid of a case in the lent slices.
@@ -58,9 +58,9 @@ fn drawn(
     work: &mut [u32],
     list: &[f64],
 ) -> Answer {
-    lent::fill_slices(vertices, triangles, work);
+    replay_slices::fill_slices(vertices, triangles, work);
     let e = made(c, ops, vertices, triangles, work, list);
-    edits::drawn(e, vertices, triangles, work)
+    replay_calls::drawn(e, vertices, triangles, work)
 }
 
 // 1: tessellates into A, in the parts of the arrays that the case has.

@@ -1,7 +1,7 @@
 // The run: case by case.
 use crate::solid::tessellate;
-use casehead::Case;
-use edits::State;
+use replay_calls::State;
+use replay_head::Case;
 use transform::TransformOp;
 
 // A call by its number.
@@ -21,7 +21,7 @@ fn call(
     if what == 1 {
         return tessellate(s, c, ops, va, ta, work, list);
     }
-    edits::call(s, h, ops, va, ta, vb, tb, work, list)
+    replay_calls::call(s, h, ops, va, ta, vb, tb, work, list)
 }
 
 // The next case. The run ends where none is left.
@@ -35,9 +35,9 @@ fn step(
     list: &mut [f64; 4096],
 ) -> State {
     let mut buf = [0u8; 65536];
-    let next = casefile::next(&mut buf);
-    let ops = casehead::operations(next, &buf);
-    let c = casefile::listed(next, list);
+    let next = replay_io::next(&mut buf);
+    let ops = replay_head::operations(next, &buf);
+    let c = replay_io::listed(next, list);
     call(s, c, ops, va, ta, vb, tb, work, list)
 }
 
@@ -50,7 +50,7 @@ pub fn run(
     work: &mut [u32; 131072],
     list: &mut [f64; 4096],
 ) {
-    let mut s = edits::begun();
+    let mut s = replay_calls::begun();
     let mut turns = u64::MAX;
     while 0 < turns {
         s = step(s, va, ta, vb, tb, work, list);

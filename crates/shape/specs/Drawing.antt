@@ -13,7 +13,7 @@ use Rattle.refusal.specs.declared.Refusal.the-variants.{Accepted, NotFinite, An
 use Rattle.transform.specs.declared.TransformOp.{TransformOp}
 use Rattle.transform.specs.Angle.{within1000}
 use Rattle.transform.specs.Checks.{opsFinite, opsAnglesWithin}
-use Rattle.slices.specs.Every.{every}
+use Rattle.slice.specs.Every.{every}
 use Rattle.shape.specs.declared.Shape.{Shape}
 use Rattle.shape.specs.declared.Shape.the-variants.{Box, MultiBox, Sphere, SphericalShell, Cylinder, CylindricalShell, Polygon, LinPoly, RotPoly, Wire}
 use Rattle.shape.specs.declared.CoordSystem.{CoordSystem}

@@ -12,8 +12,8 @@ use borrow.Author.Tests.{ltb-false, eqb-true, not-false}
 use Rattle.refusal.specs.declared.Refusal.the-variants.{Accepted, NotFinite, AngleTooLarge, TooManySegments, BadList}
 use Rattle.transform.specs.declared.TransformOp.{TransformOp}
 use Rattle.transform.specs.Checks.{opsFinite, opsAnglesWithin}
-use Rattle.slices.specs.Every.{every}
-use Rattle.slices.proofs.Next.{every-at, every-all}
+use Rattle.slice.specs.Every.{every}
+use Rattle.slice.proofs.Next.{every-at, every-all}
 use Rattle.shape.specs.declared.Shape.{Shape}
 use Rattle.shape.specs.declared.CoordSystem.{CoordSystem}
 use Rattle.shape.specs.declared.OwnSystem.{OwnSystem}

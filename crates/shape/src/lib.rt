@@ -1,4 +1,4 @@
-// What a user draws: the shape, its coordinate system and the resolution. The specs say which drawings are refused; `drawing` checks them.
+// What a user draws: the shape, its coordinate system and the resolution. The specs say which drawings are refused; `shape_check` checks them.
 mod lists;
 mod systems;
 

@@ -2,15 +2,15 @@
 // becomes a mesh in the lent slices, or is refused.
 ghost use mathlib.Core.Path.{_≡_};
 ghost use lib.ListN.{length};
-ghost use Rattle.outcome.specs.Outcome.{tessellateOf, shortWork};
+ghost use Rattle.tessellate_spec.specs.Outcome.{tessellateOf, shortWork};
 ghost use Rattle.refusal.specs.Number.{numberOf};
-ghost use Rattle.outcome.specs.Gives.{Gives, job};
-use outcome::Tessellated;
+ghost use Rattle.tessellate_spec.specs.Gives.{Gives, job};
 use refusal::Refusal;
 use shape::CoordSystem;
 use shape::OwnSystem;
 use shape::Shape;
 use shape::TessellationOptions;
+use tessellate_spec::Tessellated;
 use transform::TransformOp;
 
 // Refusal 6: fewer than two numbers of work for each whole vertex place.
@@ -42,7 +42,7 @@ pub fn tessellate(
         r (now (vertices .exit)) (now (triangles .exit)) (now (work .exit)) ⌝ }
 {
     let short = short_work(vertices.len(), work.len());
-    let refusal = drawing::check_drawing(
+    let refusal = shape_check::check_drawing(
         shape,
         list,
         own,
@@ -54,12 +54,12 @@ pub fn tessellate(
     );
     let number = refusal::number(refusal);
     if short {
-        return answers::refuse(Refusal::ShortWork, vertices, triangles, work);
+        return mesh_made::refuse(Refusal::ShortWork, vertices, triangles, work);
     }
     if 0 < number {
-        return answers::refuse(refusal, vertices, triangles, work);
+        return mesh_made::refuse(refusal, vertices, triangles, work);
     }
-    draw::draw(
+    tessellate_weld::draw(
         shape,
         list,
         own,

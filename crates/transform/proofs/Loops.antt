@@ -9,11 +9,11 @@ use native.Mathlib.Nat.{eq-or-lt-of-le}
 use native.Mathlib.Omega.{arith}
 use lib.ListN.{length, take, getD}
 use lib.Seq.{take-suc, take-all}
-use Rattle.matrix.specs.declared.Mat4.{Mat4}
-use Rattle.matrix.specs.Mat.{identity, product}
+use Rattle.math_matrix.specs.declared.Mat4.{Mat4}
+use Rattle.math_matrix.specs.Mat.{identity, product}
 use Rattle.transform.specs.declared.TransformOp.{TransformOp}
 use Rattle.transform.specs.Ops.{opMatrix, foldFrom, folded}
-use Rattle.slices.specs.Every.{every}
+use Rattle.slice.specs.Every.{every}
 
 -- the first i + 1 operations
 pub take-one-more : (ops : List TransformOp) (i : ℕ) (d : TransformOp) → i < length ops → take (i + 1) ops ≡ take i ops ++ (getD ops i d ∷ [])

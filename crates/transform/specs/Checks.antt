@@ -4,8 +4,8 @@ use mathlib.Core.Bool.{Bool, true, _&&_}
 use mathlib.Core.List.{List}
 use lib.Dec.{leb}
 use lib.Ieee.Scale.{finite}
-use Rattle.slices.specs.Every.{every}
-use Rattle.matrix.specs.declared.Row.{Row}
+use Rattle.slice.specs.Every.{every}
+use Rattle.math_matrix.specs.declared.Row.{Row}
 use Rattle.math.specs.Vec.{vFinite}
 use Rattle.transform.specs.declared.TransformOp.{TransformOp}
 use Rattle.transform.specs.declared.TransformOp.the-variants.{Translate, RotateOrigin, RotateX, RotateY, RotateZ, Scale, Scale3, Matrix}

@@ -3,9 +3,9 @@ use mathlib.Core.Bool.{Bool}
 use mathlib.Core.List.{List, [], _∷_}
 use lib.Ieee.{Float}
 use Rattle.math.specs.declared.Vec3.{Vec3}
-use Rattle.matrix.specs.declared.Mat4.{Mat4}
+use Rattle.math_matrix.specs.declared.Mat4.{Mat4}
 use Rattle.math.specs.Vec.{new, unit}
-use Rattle.matrix.specs.Mat.{identity, translation, scaling, rotation, fromRows, product}
+use Rattle.math_matrix.specs.Mat.{identity, translation, scaling, rotation, fromRows, product}
 use Rattle.transform.specs.declared.TransformOp.{TransformOp}
 use Rattle.transform.specs.declared.TransformOp.the-variants.{Translate, RotateOrigin, RotateX, RotateY, RotateZ, Scale, Scale3, Matrix}
 use Rattle.transform.specs.Angle.{angleRadians}

@@ -5,8 +5,8 @@ ghost use lib.ListN.{take};
 ghost use Rattle.transform.specs.Angle as Angle;
 ghost use Rattle.transform.specs.Ops as Ops;
 use math::Vec3;
-use matrix::Mat4;
-use matrix::Row;
+use math_matrix::Mat4;
+use math_matrix::Row;
 
 // An angle in degrees. It becomes radians by to_radians and in no other way.
 pub struct Degrees(pub f64);
@@ -51,7 +51,7 @@ fn rotation(axis: Vec3, a: f64, degrees: bool) -> Mat4
     ensures { λ m. ⌜ m ≡ Ops.turned degrees axis a ⌝ }
 {
     let r = angle_radians(a, degrees);
-    matrix::rotation(axis, r.0)
+    math_matrix::rotation(axis, r.0)
 }
 
 // The matrix of an operation.
@@ -59,14 +59,14 @@ pub fn op_matrix(op: TransformOp, degrees: bool) -> Mat4
     ensures { λ m. ⌜ m ≡ Ops.opMatrix degrees op ⌝ }
 {
     match op {
-        TransformOp::Translate(v) => matrix::translation(v),
+        TransformOp::Translate(v) => math_matrix::translation(v),
         TransformOp::RotateOrigin(v, a) => rotation(v, a, degrees),
         TransformOp::RotateX(a) => rotation(math::unit(0), a, degrees),
         TransformOp::RotateY(a) => rotation(math::unit(1), a, degrees),
         TransformOp::RotateZ(a) => rotation(math::unit(2), a, degrees),
-        TransformOp::Scale(s) => matrix::scaling(Vec3 { x: s, y: s, z: s }),
-        TransformOp::Scale3(v) => matrix::scaling(v),
-        TransformOp::Matrix(p, q, r, s) => matrix::from_rows(p, q, r, s),
+        TransformOp::Scale(s) => math_matrix::scaling(Vec3 { x: s, y: s, z: s }),
+        TransformOp::Scale3(v) => math_matrix::scaling(v),
+        TransformOp::Matrix(p, q, r, s) => math_matrix::from_rows(p, q, r, s),
     }
 }
 
@@ -82,11 +82,11 @@ pub fn fold(ops: [TransformOp; 16], count: usize, degrees: bool) -> Mat4
     ensures { λ m. ⌜ m ≡ Ops.folded degrees (take count ops) ⌝ }
 {
     let n = at_most_16(count);
-    let mut acc = matrix::identity();
+    let mut acc = math_matrix::identity();
     let mut i = 0;
     while i < n {
         let op = ops[i];
-        acc = products::product(op_matrix(op, degrees), acc);
+        acc = math_matrix_product::product(op_matrix(op, degrees), acc);
         i += 1;
     }
     acc

@@ -6,13 +6,13 @@ use Prim.Native.Nat.{ℕ, _-_, _<_}
 use native.Mathlib.Omega.{arith}
 use lib.Ieee.{Float}
 use Rattle.math.specs.declared.Vec3.{Vec3}
-use Rattle.trimesh.specs.Slices.{vertexAt}
-use Rattle.stored.specs.Points.{Clean}
-use Rattle.chain.specs.Hash.{Stored}
-use Rattle.stored.proofs.Clean.{same-data}
-use Rattle.chain.proofs.Chains.{not-both}
-use Rattle.rows.specs.declared.Row.{Row}
-use Rattle.rows.specs.Rows.{within, Follows}
+use Rattle.mesh_spec.specs.Slices.{vertexAt}
+use Rattle.weld_vertex.specs.Points.{Clean}
+use Rattle.weld_hash.specs.Hash.{Stored}
+use Rattle.weld_vertex.proofs.Clean.{same-data}
+use Rattle.weld_hash.proofs.Chains.{not-both}
+use Rattle.weld_order.specs.declared.Row.{Row}
+use Rattle.weld_order.specs.Rows.{within, Follows}
 use Rattle.weld.specs.declared.Welder.{Welder}
 use Rattle.weld.specs.declared.Foreseen.{Foreseen}
 use Rattle.weld.specs.Rep.{rowOf, InRows, indexed}

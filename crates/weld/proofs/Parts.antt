@@ -7,13 +7,13 @@ use native.Mathlib.Nat.{not-suc-le-zero, min-le-left}
 use native.Mathlib.Omega.{arith}
 use lib.ListN.{length, getD}
 use lib.Ieee.{Float}
-use Rattle.trimesh.specs.Mesh.{Mesh, append}
-use Rattle.trimesh.specs.WeldLaws.{append-none}
-use Rattle.rows.specs.declared.Row.{Row}
+use Rattle.mesh_spec.specs.Mesh.{Mesh, append}
+use Rattle.mesh_spec.specs.WeldLaws.{append-none}
+use Rattle.weld_order.specs.declared.Row.{Row}
 use Rattle.weld.specs.declared.Welder.{Welder}
-use Rattle.chain.specs.Hash.{latest, Stored, Chained}
-use Rattle.chain.proofs.Chains.{agree-same, agree-as, chained-part}
-use Rattle.slices.specs.Every.{wholePlaces, placesOf}
+use Rattle.weld_hash.specs.Hash.{latest, Stored, Chained}
+use Rattle.weld_hash.proofs.Chains.{agree-same, agree-as, chained-part}
+use Rattle.slice.specs.Every.{wholePlaces, placesOf}
 use Rattle.weld.specs.Rep.{held, indexed, Holds, Over, Begun, Parted}
 use Rattle.weld.proofs.Places.{places-fit}
 

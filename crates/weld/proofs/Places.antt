@@ -8,8 +8,8 @@ use lib.ListN.{length, getD, set, take, drop, length-append}
 use lib.Seq.{getD-take, sets-eq, take-at, length-take-le}
 use lib.Ieee.{Float, nan}
 use Rattle.math.specs.declared.Vec3.{Vec3}
-use Rattle.trimesh.specs.Slices.{flatV, vertexAt}
-use Rattle.slices.specs.Every.{wholePlaces, placesOf}
+use Rattle.mesh_spec.specs.Slices.{flatV, vertexAt}
+use Rattle.slice.specs.Every.{wholePlaces, placesOf}
 
 module _ {A : Type 0} where
   -- the front of a list after three stores at its end

@@ -7,15 +7,15 @@ use Prim.Native.Nat.{ℕ, _-_, _*_, _≤_, _<_}
 use lib.ListN.{length, take}
 use lib.Ieee.{Float}
 use Rattle.math.specs.declared.Vec3.{Vec3}
-use Rattle.balance.specs.Soup.{Tri}
-use Rattle.balance.specs.Buffer.{flat}
-use Rattle.trimesh.specs.Mesh.{Mesh, noMesh, append, weldSoup, everyFinite}
-use Rattle.trimesh.specs.Slices.{flatV, vertexAt}
+use Rattle.mesh_balance_spec.specs.Soup.{Tri}
+use Rattle.mesh_balance_spec.specs.Buffer.{flat}
+use Rattle.mesh_spec.specs.Mesh.{Mesh, noMesh, append, weldSoup, everyFinite}
+use Rattle.mesh_spec.specs.Slices.{flatV, vertexAt}
 use Rattle.weld.specs.declared.Welder.{Welder}
-use Rattle.slices.specs.Every.{placesOf}
-use Rattle.chain.specs.Hash.{Stored, Chained}
-use Rattle.rows.specs.declared.Row.{Row}
-use Rattle.rows.specs.Rows.{within}
+use Rattle.slice.specs.Every.{placesOf}
+use Rattle.weld_hash.specs.Hash.{Stored, Chained}
+use Rattle.weld_order.specs.declared.Row.{Row}
+use Rattle.weld_order.specs.Rows.{within}
 
 -- the state and the three lent slices
 pub record Held : Type 0 where

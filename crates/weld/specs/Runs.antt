@@ -8,11 +8,11 @@ use native.Mathlib.Omega.{arith}
 use lib.ListN.{length}
 use lib.Ieee.{Float}
 use Rattle.math.specs.declared.Vec3.{Vec3}
-use Rattle.balance.specs.Soup.{Tri}
-use Rattle.trimesh.specs.Mesh.{Mesh, noMesh, append, weldSoup, fromSoup, everyFinite}
-use Rattle.trimesh.specs.WeldLaws.{weldSoup-append, everyFinite-append, none-append}
+use Rattle.mesh_balance_spec.specs.Soup.{Tri}
+use Rattle.mesh_spec.specs.Mesh.{Mesh, noMesh, append, weldSoup, fromSoup, everyFinite}
+use Rattle.mesh_spec.specs.WeldLaws.{weldSoup-append, everyFinite-append, none-append}
 use Rattle.weld.specs.declared.Welder.{Welder}
-use Rattle.slices.specs.Every.{placesOf}
+use Rattle.slice.specs.Every.{placesOf}
 use Rattle.weld.specs.Rep.{Held, held, Ready, Holds, Over, Rep, Runs, Begun}
 
 and-true : (a : Bool) → a ≡ (a && true)

@@ -5,9 +5,9 @@ use mathlib.Core.List.{List}
 use Prim.Native.Nat.{ℕ, _+_, _<_}
 use lib.Ieee.{Float}
 use Rattle.math.specs.declared.Vec3.{Vec3}
-use Rattle.chain.specs.declared.Found.the-variants.{Missing}
-use Rattle.chain.specs.Hash.{Sought}
-use Rattle.rows.specs.declared.Row.{Row}
+use Rattle.weld_hash.specs.declared.Found.the-variants.{Missing}
+use Rattle.weld_hash.specs.Hash.{Sought}
+use Rattle.weld_order.specs.declared.Row.{Row}
 use Rattle.weld.specs.declared.Welder.{Welder}
 use Rattle.weld.specs.declared.Foreseen.{Foreseen}
 use Rattle.weld.specs.Rep.{InRow, indexed}

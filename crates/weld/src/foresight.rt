@@ -1,15 +1,15 @@
-// Whether a point is new, as far as the rows of vertices show it: see `rows`.
+// Whether a point is new, as far as the rows of vertices show it: see `weld_order`.
 ghost use mathlib.Core.Path.{_≡_};
 ghost use mathlib.Core.Bool.{true, false};
 ghost use Prim.Native.Nat.{_<_};
-ghost use Rattle.stored.specs.Points.{Clean};
-ghost use Rattle.chain.specs.Hash.{Stored};
+ghost use Rattle.weld_vertex.specs.Points.{Clean};
+ghost use Rattle.weld_hash.specs.Hash.{Stored};
 ghost use Rattle.weld.specs.Rep.{InRows};
 ghost use Rattle.weld.specs.States.{freshIn, Foresees};
 use crate::Foreseen;
 use crate::Welder;
 use math::Vec3;
-use rows::Row;
+use weld_order::Row;
 
 // A new point, and the row after it.
 fn fresh(row: Row) -> Foreseen
@@ -39,7 +39,7 @@ pub fn foresee(vertices: &[f64], w: Welder, p: Vec3) -> Foreseen
     ensures { λ r. ⌜ Foresees w (now (vertices .entry)) p r ⌝ }
 {
     if w.base == w.count {
-        return fresh(rows::first_row(p));
+        return fresh(weld_order::first_row(p));
     }
     let ordered = w.ordered;
     if ordered {
@@ -57,9 +57,9 @@ fn from_last(vertices: &[f64], w: Welder, p: Vec3) -> Foreseen
         near: w.near,
         rising: w.rising,
     };
-    let last = stored::vertex(vertices, w.count - 1);
-    if rows::is_within(row, last, p) {
+    let last = weld_vertex::vertex(vertices, w.count - 1);
+    if weld_order::is_within(row, last, p) {
         return unknown();
     }
-    fresh(rows::next_row(row, last, p))
+    fresh(weld_order::next_row(row, last, p))
 }

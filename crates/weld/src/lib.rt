@@ -1,5 +1,5 @@
 // The state in which from_soup of src/tessellate.rs runs, one triangle at a time: the soup is not stored. A mesh lies in lent
-// slices, three floats a vertex and three numbers a triangle; the work slice holds the hash chains of `chain`.
+// slices, three floats a vertex and three numbers a triangle; the work slice holds the hash chains of `weld_hash`.
 ghost use mathlib.Core.Path.{_≡_};
 ghost use Prim.Native.Nat.{ℕ, _*_, _/_, _≤_};
 ghost use lib.ListN.{length, getD};
@@ -21,7 +21,7 @@ pub use states::with_face;
 
 // The state of the welder. `base` vertices belong to the parts before this one, `count` vertices and `faces` triangles are
 // written, and `places` vertices fit. `finite` is false once a point was not finite, `room` once the mesh did not fit. While
-// the vertices of this part come row by row, `ordered` is true, and `near` and `rising` are the row of the last one, see `rows`.
+// the vertices of this part come row by row, `ordered` is true, and `near` and `rising` are the row of the last one, see `weld_order`.
 // They go into the chains when one is searched for; from then on `ordered` is false.
 pub struct Welder {
     pub base: usize,
@@ -50,7 +50,7 @@ pub fn begin(vertices: &[f64], work: &[u32]) -> Welder
     Welder {
         base: 0,
         count: 0,
-        places: slices::whole_places(vertices.len()),
+        places: slice::whole_places(vertices.len()),
         faces: 0,
         near: 0.0,
         finite: true,

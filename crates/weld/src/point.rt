@@ -2,8 +2,8 @@
 ghost use mathlib.Core.Path.{_≡_};
 ghost use mathlib.Core.Bool.{true};
 ghost use Rattle.math.specs.Vec.{vFinite};
-ghost use Rattle.trimesh.specs.Mesh.{plusZeroV};
-ghost use Rattle.stored.specs.Points.{Clean};
+ghost use Rattle.mesh_spec.specs.Mesh.{plusZeroV};
+ghost use Rattle.weld_vertex.specs.Points.{Clean};
 use math::Vec3;
 
 // No coordinate is −0.0 afterwards.

@@ -1,4 +1,4 @@
-//! Times crates/bench beside the unpatched Rust. `bench [REPETITIONS [ROW]]`: a line for each row whose name holds the text ROW: its name,
+//! Times crates/c_solids beside the unpatched Rust. `bench [REPETITIONS [ROW]]`: a line for each row whose name holds the text ROW: its name,
 //! ns a triangle ours and of the Rust, and the Rust's over ours. Medians; ours and the Rust take turns.
 mod inputs;
 mod ours;

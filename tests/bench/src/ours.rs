@@ -1,4 +1,4 @@
-//! crates/bench: a lent slice is a pointer and a length.
+//! crates/c_solids: a lent slice is a pointer and a length.
 
 /// The slices of a mesh, lent with exactly the places that its result needs, and its counts.
 #[derive(Clone)]
@@ -23,7 +23,7 @@ impl Lent {
     }
 }
 
-/// A solid as crates/bench takes it.
+/// A solid as crates/c_solids takes it.
 pub enum Solid {
     Box([f64; 3], [f64; 3]),
     Sphere([f64; 3], f64),

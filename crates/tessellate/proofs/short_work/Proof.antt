@@ -1,6 +1,6 @@
 -- `tessellate::short_work` meets its contract. Assumes nothing.
 use mathlib.Core.Path.{refl}
-use Rattle.outcome.specs.Outcome.{shortWork}
+use Rattle.tessellate_spec.specs.Outcome.{shortWork}
 use borrow.Author.Needs.{needs}
 use Rattle.tessellate.proofs.short_work.Statement.{statement}
 use Rattle.tessellate.proofs.short_work.Tie as tie

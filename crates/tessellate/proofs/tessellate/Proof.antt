@@ -6,10 +6,10 @@ use native.Mathlib.Omega.{arith}
 use Prim.Native.Nat.{_<_}
 use mathlib.Core.Bool.{true, false}
 use Rattle.refusal.specs.Number.{numberOf}
-use Rattle.outcome.specs.Outcome.{jobRefusal, shortWork}
-use Rattle.outcome.specs.Gives.{job}
-use Rattle.answers.proofs.Ending.{gives-as}
-use Rattle.draw.proofs.Choices.{short, drawing, accepted-zero}
+use Rattle.tessellate_spec.specs.Outcome.{jobRefusal, shortWork}
+use Rattle.tessellate_spec.specs.Gives.{job}
+use Rattle.mesh_made.proofs.Ending.{gives-as}
+use Rattle.tessellate_weld.proofs.Choices.{short, drawing, accepted-zero}
 use borrow.Author.Needs.{needs}
 use Rattle.tessellate.proofs.tessellate.Statement.{statement}
 use Rattle.tessellate.proofs.tessellate.Tie as tie

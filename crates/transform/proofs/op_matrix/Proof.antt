@@ -4,7 +4,7 @@ use mathlib.Core.Path.{_≡_, sym, ap, _∙_}
 use mathlib.Core.Bool.{Bool}
 use lib.Ieee.{Float}
 use Rattle.math.specs.declared.Vec3.{Vec3}
-use Rattle.matrix.specs.declared.Mat4.{Mat4}
+use Rattle.math_matrix.specs.declared.Mat4.{Mat4}
 use Rattle.transform.specs.Ops.{opMatrix, turned}
 use Rattle.transform.proofs.op_matrix.Statement.{statement}
 use Rattle.transform.proofs.op_matrix.Tie as tie

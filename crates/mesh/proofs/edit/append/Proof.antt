@@ -6,12 +6,12 @@ use mathlib.Core.List.{map}
 use Prim.Native.Nat.{ℕ, _+_, _*_}
 use lib.Seq.{paste}
 use borrow.Author.Tests.{not-true, not-false}
-use Rattle.trimesh.specs.Mesh.{append}
-use Rattle.meshcheck.specs.declared.TriMesh.{TriMesh}
-use Rattle.meshcheck.specs.State.{state, meshOf, stored, isAccepted}
-use Rattle.appendcheck.specs.Append.{appendRefusal}
+use Rattle.mesh_spec.specs.Mesh.{append}
+use Rattle.mesh_check.specs.declared.TriMesh.{TriMesh}
+use Rattle.mesh_check.specs.State.{state, meshOf, stored, isAccepted}
+use Rattle.mesh_append_check.specs.Append.{appendRefusal}
 use Rattle.mesh.specs.Edits.{appendOf}
-use Rattle.meshcheck.proofs.Stored.{stored-append}
+use Rattle.mesh_check.proofs.Stored.{stored-append}
 use Rattle.mesh.proofs.Given.{gives-kept, gives-done}
 use Rattle.mesh.proofs.Accepted.{appends}
 use borrow.Author.Needs.{needs}

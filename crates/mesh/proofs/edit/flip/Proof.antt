@@ -3,14 +3,14 @@ use denote.Ref.{now}
 use mathlib.Core.Path.{_≡_, refl, sym, _∙_}
 use mathlib.Core.Bool.{true, false}
 use borrow.Author.Tests.{not-true, not-false}
-use Rattle.balance.specs.Soup.{flip as flipTri}
-use Rattle.trimesh.specs.Mesh.{flip}
-use Rattle.meshcheck.specs.State.{state, meshOf, stored, checkOf, isAccepted}
+use Rattle.mesh_balance_spec.specs.Soup.{flip as flipTri}
+use Rattle.mesh_spec.specs.Mesh.{flip}
+use Rattle.mesh_check.specs.State.{state, meshOf, stored, checkOf, isAccepted}
 use Rattle.mesh.specs.Edits.{flipOf}
-use Rattle.triples.specs.Triples.{eachTo}
-use Rattle.meshcheck.proofs.Stored.{stored-flip}
+use Rattle.mesh_triples.specs.Triples.{eachTo}
+use Rattle.mesh_check.proofs.Stored.{stored-flip}
 use Rattle.mesh.proofs.Given.{gives-kept, gives-done}
-use Rattle.meshcheck.proofs.Sound.{check-sound}
+use Rattle.mesh_check.proofs.Sound.{check-sound}
 use borrow.Author.Needs.{needs}
 use Rattle.mesh.proofs.edit.flip.Statement.{statement}
 use Rattle.mesh.proofs.edit.flip.Tie as tie

@@ -7,18 +7,18 @@ use lib.ListN.{take}
 use lib.Dec.{eqb}
 use lib.Ieee.{Float, binary64, lt, ofBits}
 use borrow.Author.Tests.{not-true, not-false, eq-eqb, ne-eqb}
-use Rattle.matrix.specs.declared.Mat4.{Mat4}
-use Rattle.matrix.specs.Mat.{determinant}
+use Rattle.math_matrix.specs.declared.Mat4.{Mat4}
+use Rattle.math_matrix.specs.Mat.{determinant}
 use Rattle.transform.specs.Ops.{folded}
-use Rattle.balance.specs.Soup.{flip as flipTri}
-use Rattle.trimesh.specs.Mesh.{Mesh}
-use Rattle.meshcheck.specs.State.{State, state, meshOf, stored, isAccepted}
-use Rattle.movecheck.specs.Transform.{transformed, transformRefusal}
+use Rattle.mesh_balance_spec.specs.Soup.{flip as flipTri}
+use Rattle.mesh_spec.specs.Mesh.{Mesh}
+use Rattle.mesh_check.specs.State.{State, state, meshOf, stored, isAccepted}
+use Rattle.mesh_transform_check.specs.Transform.{transformed, transformRefusal}
 use Rattle.mesh.specs.Edits.{transformOf}
-use Rattle.triples.specs.Triples.{eachTo, movedTriple}
-use Rattle.meshcheck.proofs.Stored.{stored-moved, stored-mirrored}
+use Rattle.mesh_triples.specs.Triples.{eachTo, movedTriple}
+use Rattle.mesh_check.proofs.Stored.{stored-moved, stored-mirrored}
 use Rattle.mesh.proofs.Given.{gives-kept, gives-done}
-use Rattle.meshcheck.proofs.Tests.{transform-mirrors, transform-moves}
+use Rattle.mesh_check.proofs.Tests.{transform-mirrors, transform-moves}
 use Rattle.mesh.proofs.Accepted.{transform-sound, transform-finite}
 use borrow.Author.Needs.{needs}
 use Rattle.mesh.proofs.edit.transform.Statement.{statement}

@@ -6,10 +6,10 @@ use Rattle.replay.proofs.solid.tessellate.Statement.{statement}
 use Rattle.replay.proofs.solid.tessellate.Tie as tie
 use Rattle.replay.proofs.solid.tessellate.Reads as reads
 use Rattle.replay.proofs.solid.tessellate.Lts as lts
-use Rattle.lent.proofs.least.Reads as least-reads
-use Rattle.edits.proofs.after.Reads as after-reads
+use Rattle.replay_slices.proofs.least.Reads as least-reads
+use Rattle.replay_calls.proofs.after.Reads as after-reads
 use Rattle.replay.proofs.solid.drawn.Reads as drawn-reads
-use Rattle.slices.proofs.wide.Reads as wide-reads
+use Rattle.slice.proofs.wide.Reads as wide-reads
 
 wide-requires : tie.Need-wide-requires
 wide-requires c κs = search needs

@@ -4,7 +4,7 @@ use Rattle.replay.proofs.turns.run.Statement.{statement}
 use Rattle.replay.proofs.turns.run.Tie as tie
 use Rattle.replay.proofs.turns.run.Reads as reads
 use Rattle.replay.proofs.turns.run.Lts as lts
-use Rattle.edits.proofs.begun.Reads as begun-reads
+use Rattle.replay_calls.proofs.begun.Reads as begun-reads
 use Rattle.replay.proofs.turns.step.Reads as step-reads
 
 abbrev Inv-loop : tie.InvT-loop

@@ -3,7 +3,7 @@ use borrow.Author.Needs.{needs}
 use mathlib.Core.Path.{sym, _∙_, subst}
 use native.Mathlib.Omega.{arith}
 use denote.Ref.{now}
-use Rattle.stored.specs.Points.{Clean}
+use Rattle.weld_vertex.specs.Points.{Clean}
 use Rattle.weld.proofs.InRows.{not-seen, next-seen}
 use Rattle.weld.proofs.foresight.from_last.Statement.{statement}
 use Rattle.weld.proofs.foresight.from_last.Tie as tie

@@ -1,7 +1,7 @@
 -- `weld::point::plus_zero` meets its contract. Assumes nothing.
 use mathlib.Core.Path.{refl}
-use Rattle.trimesh.specs.Mesh.{plusZeroV}
-use Rattle.stored.proofs.Clean.{clean-after}
+use Rattle.mesh_spec.specs.Mesh.{plusZeroV}
+use Rattle.weld_vertex.proofs.Clean.{clean-after}
 use Rattle.weld.proofs.point.plus_zero.Statement.{statement}
 use Rattle.weld.proofs.point.plus_zero.Tie as tie
 

@@ -1,2 +1,0 @@
--- What the contracts of `affine` cite.
-pub mod Affine

@@ -1,2 +1,0 @@
--- What the proofs of `angles` share.
-pub mod Loops

@@ -1,2 +1,0 @@
--- Laws that the proofs of `answers` and of its callers use.
-pub mod Ending

@@ -1,2 +1,0 @@
--- What the contract of `appendcheck` cites: the refusals of `append`.
-pub mod Append

@@ -1,2 +1,0 @@
--- What the contracts of `bench` cite beside the definitions of the calls.
-pub mod Answers

@@ -1,3 +1,0 @@
--- What the contracts of `bounded` cite, and what it says of products and sums.
-pub mod Bounded
-pub mod Laws

@@ -1,4 +1,0 @@
--- Laws that the proofs of `boxes` use.
-pub mod FaceRuns
-pub mod BoxRuns
-pub mod FlatRuns

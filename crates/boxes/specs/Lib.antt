@@ -1,2 +1,0 @@
--- What the contracts of `boxes` cite.
-pub mod Box

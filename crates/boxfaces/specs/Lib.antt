@@ -1,4 +1,0 @@
--- What the contracts of `boxfaces` cite.
-pub mod Faces
-pub mod Flat
-pub mod Guesses

@@ -1,0 +1,20 @@
+-- `c_solids::meshes::bench_flip` meets its contract, by that of `mesh::flip`. Assumes nothing.
+use borrow.Author.Needs.{needs}
+use Rattle.c_solids.proofs.Told.{leaves}
+use Rattle.c_solids.proofs.meshes.bench_flip.Statement.{statement}
+use Rattle.c_solids.proofs.meshes.bench_flip.Tie as tie
+
+flip-requires : tie.Need-flip-requires
+flip-requires c κs = search needs
+
+number-requires : tie.Need-number-requires
+number-requires c κs = search needs
+
+same-length : tie.Need-same-length
+same-length c = search needs
+
+returns : tie.Need-returns
+returns c = leaves (c .before .before .before .before .flip .ensures) (c .number .ensures)
+
+pub bench-flip-spec : {M : Type 1} → statement M
+bench-flip-spec = tie.close (tie.spec flip-requires number-requires same-length returns)

@@ -1,0 +1,34 @@
+-- `c_solids::meshes::bench_transform` meets its contract, by that of `mesh::transform`. Assumes nothing.
+use borrow.Author.Needs.{needs}
+use Rattle.c_solids.proofs.Told.{leaves}
+use Rattle.c_solids.proofs.meshes.bench_transform.Statement.{statement}
+use Rattle.c_solids.proofs.meshes.bench_transform.Tie as tie
+
+array-set-from-ops : tie.Need-array-set-from-ops
+array-set-from-ops c = search needs
+
+transform-requires : tie.Need-transform-requires
+transform-requires c κs = search needs
+
+number-requires : tie.Need-number-requires
+number-requires c κs = search needs
+
+same-length : tie.Need-same-length
+same-length c = search needs
+
+same-length-2 : tie.Need-same-length-2
+same-length-2 c = search needs
+
+returns : tie.Need-returns
+returns c = leaves (c .before .before .before .before .before .before .transform .ensures) (c .number .ensures)
+
+pub bench-transform-spec : {M : Type 1} → statement M
+bench-transform-spec =
+    tie.close
+    (tie.spec
+    array-set-from-ops
+    transform-requires
+    number-requires
+    same-length
+    same-length-2
+    returns)

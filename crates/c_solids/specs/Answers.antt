@@ -1,0 +1,56 @@
+-- What the contracts of `c_solids` cite beside the outcomes of the calls: the answer as plain numbers. Definitions only.
+use mathlib.Core.Path.{_≡_}
+use mathlib.Core.Bool.{false}
+use mathlib.Core.List.{List, [], _∷_}
+use Prim.Native.Nat.{ℕ}
+use lib.ListN.{replicate, set}
+use lib.Ieee.{Float, binary64, ofBits}
+use Rattle.math.specs.declared.Vec3.{Vec3}
+use Rattle.transform.specs.declared.TransformOp.{TransformOp}
+use Rattle.transform.specs.declared.TransformOp.the-variants.{Translate, RotateOrigin, Scale}
+use Rattle.refusal.specs.Number.{numberOf}
+use Rattle.shape.specs.declared.Shape.{Shape}
+use Rattle.shape.specs.declared.OwnSystem.the-variants.{Inherited}
+use Rattle.shape.specs.declared.CoordSystem.the-variants.{Cartesian}
+use Rattle.mesh_check.specs.declared.TriMesh.{TriMesh}
+use Rattle.mesh.specs.Outcome as Edit
+use Rattle.tessellate_spec.specs.Outcome.{Outcome, tessellateOf}
+use Rattle.tessellate_spec.specs.Gives.{job}
+
+-- a point by its numbers
+abbrev pub at : Float → Float → Float → Vec3
+at x y z = record { x = x; y = y; z = z }
+
+abbrev pub counts : ℕ → ℕ → TriMesh
+counts n k = record { vertices = n; triangles = k }
+
+-- the list beside a shape that has none
+abbrev pub unread : List Float
+unread = replicate 1 (ofBits binary64 0)
+
+-- 16 operations, of which none counts: Scale(1.0)
+abbrev pub noOps : List TransformOp
+noOps = replicate 16 (Scale (ofBits binary64 4607182418800017408))
+
+-- a shape in the Cartesian system, without operations
+abbrev pub solidOf : Shape → List Float → ℕ → ℕ → ℕ → ℕ → ℕ → Outcome
+solidOf shape list segments rings = tessellateOf (job shape list Inherited Cartesian (record { segments = segments; «sphere_rings» = rings }) false noOps 0)
+
+-- 16 operations, of which two count: a rotation about an axis through the origin, then a translation
+abbrev pub turnThenMove : Vec3 → Float → Vec3 → List TransformOp
+turnThenMove axis angle by = set (replicate 16 (Translate by)) 0 (RotateOrigin axis angle)
+
+-- the refusal's number, the counts and the slices' final lists are those of the outcome of a tessellation
+pub record Tells (o : Outcome) (number nv nt : ℕ) (vs : List Float) (ts ws : List ℕ) : Type 0 where
+  pub refusal : number ≡ numberOf (o .refusal)
+  pub mesh : counts nv nt ≡ o .mesh
+  pub vertices : vs ≡ o .vertices
+  pub triangles : ts ≡ o .triangles
+  pub work : ws ≡ o .work
+
+-- the same of an edit
+pub record Leaves (o : Edit.Outcome) (number nv nt : ℕ) (vs : List Float) (ts : List ℕ) : Type 0 where
+  pub refusal : number ≡ numberOf (o .refusal)
+  pub mesh : counts nv nt ≡ o .state .mesh
+  pub vertices : vs ≡ o .state .vertices
+  pub triangles : ts ≡ o .state .triangles

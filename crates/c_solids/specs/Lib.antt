@@ -1,0 +1,2 @@
+-- What the contracts of `c_solids` cite beside the definitions of the calls.
+pub mod Answers

@@ -1,0 +1,162 @@
+// The mesh calls. The counts of a mesh that is edited are given and answered through the same references.
+ghost use mathlib.Core.Path.{_≡_};
+ghost use mathlib.Core.Bool.{false};
+ghost use Rattle.mesh_check.specs.State.{state};
+ghost use Rattle.mesh_measures.specs.Measures.{areaOf, signedVolumeOf};
+ghost use Rattle.mesh.specs.Edits.{appendOf, flipOf, transformOf};
+ghost use Rattle.c_solids.specs.Answers.{counts, Leaves, at, turnThenMove};
+use math::Vec3;
+use mesh::TriMesh;
+use transform::TransformOp;
+
+// The bits of the area.
+#[no_mangle]
+pub extern "C" fn bench_area(
+    vertex_count: usize,
+    triangle_count: usize,
+    vertices: &[f64],
+    triangles: &[u32],
+) -> u64
+    ensures { λ r. ⌜ r ≡ areaOf (state (counts «vertex_count» «triangle_count») (now (vertices .entry)) (now (triangles .entry))) .bits ⌝ }
+{
+    let m = mesh::area(
+        TriMesh {
+            vertices: vertex_count,
+            triangles: triangle_count,
+        },
+        vertices,
+        triangles,
+    );
+    m.bits
+}
+
+// The bits of the signed volume.
+#[no_mangle]
+pub extern "C" fn bench_signed_volume(
+    vertex_count: usize,
+    triangle_count: usize,
+    vertices: &[f64],
+    triangles: &[u32],
+) -> u64
+    ensures { λ r. ⌜ r ≡ signedVolumeOf (state (counts «vertex_count» «triangle_count») (now (vertices .entry)) (now (triangles .entry))) .bits ⌝ }
+{
+    let m = mesh::signed_volume(
+        TriMesh {
+            vertices: vertex_count,
+            triangles: triangle_count,
+        },
+        vertices,
+        triangles,
+    );
+    m.bits
+}
+
+#[no_mangle]
+pub extern "C" fn bench_append(
+    vertex_count: &mut usize,
+    triangle_count: &mut usize,
+    vertices: &mut [f64],
+    triangles: &mut [u32],
+    other_vertex_count: usize,
+    other_triangle_count: usize,
+    other_vertices: &[f64],
+    other_triangles: &[u32],
+) -> u32
+    ensures { λ r. ⌜ Leaves
+        (appendOf (state (counts (now («vertex_count» .entry)) (now («triangle_count» .entry))) (now (vertices .entry)) (now (triangles .entry)))
+        (state (counts «other_vertex_count» «other_triangle_count») (now («other_vertices» .entry)) (now («other_triangles» .entry))))
+        r (now («vertex_count» .exit)) (now («triangle_count» .exit)) (now (vertices .exit)) (now (triangles .exit)) ⌝ }
+{
+    let e = mesh::append(
+        TriMesh {
+            vertices: *vertex_count,
+            triangles: *triangle_count,
+        },
+        vertices,
+        triangles,
+        TriMesh {
+            vertices: other_vertex_count,
+            triangles: other_triangle_count,
+        },
+        other_vertices,
+        other_triangles,
+    );
+    let after = e.mesh;
+    let why = e.refusal;
+    *vertex_count = after.vertices;
+    *triangle_count = after.triangles;
+    refusal::number(why)
+}
+
+#[no_mangle]
+pub extern "C" fn bench_flip(
+    vertex_count: &mut usize,
+    triangle_count: &mut usize,
+    vertices: &[f64],
+    triangles: &mut [u32],
+) -> u32
+    ensures { λ r. ⌜ Leaves
+        (flipOf (state (counts (now («vertex_count» .entry)) (now («triangle_count» .entry))) (now (vertices .entry)) (now (triangles .entry))))
+        r (now («vertex_count» .exit)) (now («triangle_count» .exit)) (now (vertices .entry)) (now (triangles .exit)) ⌝ }
+{
+    let e = mesh::flip(
+        TriMesh {
+            vertices: *vertex_count,
+            triangles: *triangle_count,
+        },
+        vertices,
+        triangles,
+    );
+    let after = e.mesh;
+    let why = e.refusal;
+    *vertex_count = after.vertices;
+    *triangle_count = after.triangles;
+    refusal::number(why)
+}
+
+// A rotation by an angle in radians about an axis through the origin, then a translation.
+#[no_mangle]
+pub extern "C" fn bench_transform(
+    vertex_count: &mut usize,
+    triangle_count: &mut usize,
+    vertices: &mut [f64],
+    triangles: &mut [u32],
+    axis_x: f64,
+    axis_y: f64,
+    axis_z: f64,
+    angle: f64,
+    x: f64,
+    y: f64,
+    z: f64,
+) -> u32
+    ensures { λ r. ⌜ Leaves
+        (transformOf (turnThenMove (at «axis_x» «axis_y» «axis_z») angle (at x y z)) 2 false (state (counts (now («vertex_count» .entry)) (now («triangle_count» .entry))) (now (vertices .entry)) (now (triangles .entry))))
+        r (now («vertex_count» .exit)) (now («triangle_count» .exit)) (now (vertices .exit)) (now (triangles .exit)) ⌝ }
+{
+    let shift = TransformOp::Translate(Vec3 { x, y, z });
+    let mut ops = [shift; 16];
+    ops[0] = TransformOp::RotateOrigin(
+        Vec3 {
+            x: axis_x,
+            y: axis_y,
+            z: axis_z,
+        },
+        angle,
+    );
+    let e = mesh::transform(
+        TriMesh {
+            vertices: *vertex_count,
+            triangles: *triangle_count,
+        },
+        vertices,
+        triangles,
+        ops,
+        2,
+        false,
+    );
+    let after = e.mesh;
+    let why = e.refusal;
+    *vertex_count = after.vertices;
+    *triangle_count = after.triangles;
+    refusal::number(why)
+}

@@ -1,3 +1,0 @@
--- Laws that the proofs of `casehead` use.
-mod ByKind
-mod Reading

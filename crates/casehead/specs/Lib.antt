@@ -1,5 +1,0 @@
--- What the contracts of `casehead` cite.
-pub mod Asked
-pub mod Cases
-pub mod Kept
-pub mod Shapes

@@ -1,3 +1,0 @@
--- The definitions that the contracts of `cases` cite.
-pub mod Layout
-pub mod Lists

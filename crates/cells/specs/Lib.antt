@@ -1,2 +1,0 @@
--- What the contracts of `cells` cite.
-pub mod Cell

@@ -1,2 +1,0 @@
--- What the contracts of `chain` cite.
-pub mod Hash

@@ -1,2 +1,0 @@
--- What the contract of `clipping` cites.
-pub mod Outcome

@@ -1,4 +1,0 @@
--- Laws that the proofs of `draw` use.
-pub mod Choices
-pub mod Drawing
-pub mod Welding

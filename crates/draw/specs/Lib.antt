@@ -1,2 +1,0 @@
--- What the contracts of `draw` cite.
-pub mod Steps

@@ -1,2 +1,0 @@
--- What the contracts of `edgecount` cite.
-pub mod Even

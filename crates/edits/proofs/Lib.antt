@@ -1,2 +1,0 @@
--- Laws that the proofs of `edits` use.
-mod Leaves

@@ -1,3 +1,0 @@
--- What the contracts of `edits` cite.
-pub mod Agreed
-pub mod States

@@ -1,2 +1,0 @@
--- Laws of the box, for the proofs of `extents`.
-pub mod Including

@@ -1,2 +1,0 @@
--- What the contracts of `extents` cite.
-pub mod ZeroBox

@@ -1,0 +1,2 @@
+-- What the contracts of `figures_text` cite.
+pub mod Whole

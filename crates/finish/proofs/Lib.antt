@@ -1,4 +1,0 @@
--- Laws that the proofs of `finish` use.
-pub mod Lying
-pub mod Turning
-pub mod Moving

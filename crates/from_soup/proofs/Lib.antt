@@ -1,2 +1,0 @@
--- Laws that the proofs of `from_soup` use.
-pub mod SoupRuns

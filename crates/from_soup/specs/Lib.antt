@@ -1,2 +1,0 @@
--- What the contract of `from_soup` cites.
-pub mod Soups

@@ -1,2 +1,0 @@
--- Laws that the proofs of `grids` use.
-pub mod Cells

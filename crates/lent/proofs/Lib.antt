@@ -1,2 +1,0 @@
--- Laws that the proofs of `lent` use.
-mod Swapping

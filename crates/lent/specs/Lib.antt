@@ -1,3 +1,0 @@
--- What the contracts of `lent` cite.
-pub mod Filling
-pub mod Swapped

@@ -1,0 +1,2 @@
+-- What the proofs of `math_matrix` share.
+pub mod Made

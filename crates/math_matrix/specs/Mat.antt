@@ -1,0 +1,151 @@
+-- Matrices of four rows and four columns, as src/math.rs has them in `impl Mat4`. Each operation rounds once, to binary64.
+use Prim.Native.Nat.{ℕ, _+_, _*_}
+use mathlib.Core.Bool.{cond, _&&_}
+use mathlib.Core.List.{[], _∷_}
+use lib.ListN.{getD}
+use lib.Ieee.{Float, nan, binary64, add, sub, mul, div, ne}
+use Rattle.ieee.specs.Same.{plusZero}
+use Rattle.trig.specs.Trig.{sinCos}
+use Rattle.math.specs.declared.Vec3.{Vec3}
+use Rattle.math_matrix.specs.declared.Row.{Row}
+use Rattle.math_matrix.specs.declared.Mat4.{Mat4}
+use Rattle.math.specs.Vec.{one, new, normalized}
+
+-- `m[i][j]`: the entry in row i and column j, both from 0 to 3. The array holds row after row, and the NaN, of a place past its end, is never met.
+abbrev pub entry : Mat4 → ℕ → ℕ → Float
+entry a i j = getD (a .m) (i * 4 + j) nan
+
+-- `m[i]`: row i, from 0 to 3
+abbrev pub rowOf : Mat4 → ℕ → Row
+rowOf a i = record { a = entry a i 0; b = entry a i 1; c = entry a i 2; d = entry a i 3 }
+
+-- a row of four numbers
+abbrev pub newRow : Float → Float → Float → Float → Row
+newRow a b c d = record { a = a; b = b; c = c; d = d }
+
+-- `Mat4::from_row_major`, of four rows
+unfoldable pub fromRows : Row → Row → Row → Row → Mat4
+fromRows p q r s = record {
+  m =
+      p .a ∷ p .b ∷ p .c ∷ p .d
+      ∷ q .a ∷ q .b ∷ q .c ∷ q .d
+      ∷ r .a ∷ r .b ∷ r .c ∷ r .d
+      ∷ s .a ∷ s .b ∷ s .c ∷ s .d ∷ [];
+}
+
+-- the row that the identity and every translation, scaling and rotation end with
+abbrev pub lastRow : Row
+lastRow = newRow plusZero plusZero plusZero one
+
+-- `Mat4::IDENTITY`
+unfoldable pub identity : Mat4
+identity =
+    fromRows
+    (newRow one plusZero plusZero plusZero)
+    (newRow plusZero one plusZero plusZero)
+    (newRow plusZero plusZero one plusZero)
+    lastRow
+
+-- `Mat4::translation`
+unfoldable pub translation : Vec3 → Mat4
+translation t =
+    fromRows
+    (newRow one plusZero plusZero (t .x))
+    (newRow plusZero one plusZero (t .y))
+    (newRow plusZero plusZero one (t .z))
+    lastRow
+
+-- `Mat4::scaling`
+unfoldable pub scaling : Vec3 → Mat4
+scaling s =
+    fromRows
+    (newRow (s .x) plusZero plusZero plusZero)
+    (newRow plusZero (s .y) plusZero plusZero)
+    (newRow plusZero plusZero (s .z) plusZero)
+    lastRow
+
+-- (t * u) * v
+abbrev times : Float → Float → Float → Float
+times t u v = mul binary64 (mul binary64 t u) v
+
+-- `Mat4::rotation` from its line `let t` on: a is the axis of length 1, s and c are the sine and the cosine
+unfoldable pub turn : Vec3 → Float → Float → Mat4
+turn a s c =
+    let t = sub binary64 one c in
+    let x = a .x in
+    let y = a .y in
+    let z = a .z in
+    fromRows
+    (newRow
+    (add binary64 (times t x x) c)
+    (sub binary64 (times t x y) (mul binary64 s z))
+    (add binary64 (times t x z) (mul binary64 s y))
+    plusZero)
+    (newRow
+    (add binary64 (times t x y) (mul binary64 s z))
+    (add binary64 (times t y y) c)
+    (sub binary64 (times t y z) (mul binary64 s x))
+    plusZero)
+    (newRow
+    (sub binary64 (times t x z) (mul binary64 s y))
+    (add binary64 (times t y z) (mul binary64 s x))
+    (add binary64 (times t z z) c)
+    plusZero)
+    lastRow
+
+-- `Mat4::rotation`, the angle in radians
+unfoldable pub rotation : Vec3 → Float → Mat4
+rotation axis angle = turn (normalized axis) (sinCos angle .sin) (sinCos angle .cos)
+
+-- the sum of four terms, starting at +0.0
+abbrev sum4 : Float → Float → Float → Float → Float
+sum4 u v w x = add binary64 (add binary64 (add binary64 (add binary64 plusZero u) v) w) x
+
+-- one row of `Mul for Mat4`, from the row r of `self` and the rows p, q, s, t of `o`: entry j is the sum of `self[i][k] * o[k][j]` for k from 0 to 3
+unfoldable pub timesRows : Row → Row → Row → Row → Row → Row
+timesRows r p q s t = record {
+  a = sum4 (mul binary64 (r .a) (p .a)) (mul binary64 (r .b) (q .a)) (mul binary64 (r .c) (s .a)) (mul binary64 (r .d) (t .a));
+  b = sum4 (mul binary64 (r .a) (p .b)) (mul binary64 (r .b) (q .b)) (mul binary64 (r .c) (s .b)) (mul binary64 (r .d) (t .b));
+  c = sum4 (mul binary64 (r .a) (p .c)) (mul binary64 (r .b) (q .c)) (mul binary64 (r .c) (s .c)) (mul binary64 (r .d) (t .c));
+  d = sum4 (mul binary64 (r .a) (p .d)) (mul binary64 (r .b) (q .d)) (mul binary64 (r .c) (s .d)) (mul binary64 (r .d) (t .d));
+}
+
+-- the same, from the row r of `self` and `o`
+unfoldable pub productRow : Row → Mat4 → Row
+productRow r o = timesRows r (rowOf o 0) (rowOf o 1) (rowOf o 2) (rowOf o 3)
+
+-- `Mul for Mat4`
+unfoldable pub product : Mat4 → Mat4 → Mat4
+product a o = fromRows (productRow (rowOf a 0) o) (productRow (rowOf a 1) o) (productRow (rowOf a 2) o) (productRow (rowOf a 3) o)
+
+-- `m[i][0] * p[0] + m[i][1] * p[1] + m[i][2] * p[2] + m[i][3]` of `Mat4::transform_point`, r being row i
+unfoldable pub along : Row → Vec3 → Float
+along r p =
+    add binary64
+    (add binary64 (add binary64 (mul binary64 (r .a) (p .x)) (mul binary64 (r .b) (p .y))) (mul binary64 (r .c) (p .z)))
+    (r .d)
+
+-- the last lines of `Mat4::transform_point`: x, y, z divided by w unless w is 0 or 1
+unfoldable pub overW : Float → Float → Float → Float → Vec3
+overW x y z w = cond (ne w one && ne w plusZero) (new (div binary64 x w) (div binary64 y w) (div binary64 z w)) (new x y z)
+
+-- `Mat4::transform_point`
+unfoldable pub transformPoint : Mat4 → Vec3 → Vec3
+transformPoint a p = overW (along (rowOf a 0) p) (along (rowOf a 1) p) (along (rowOf a 2) p) (along (rowOf a 3) p)
+
+-- u * v - w * x
+abbrev minor : Float → Float → Float → Float → Float
+minor u v w x = sub binary64 (mul binary64 u v) (mul binary64 w x)
+
+-- `det` of `TriMesh::transform` in src/tessellate.rs, of the rows p, q and r of a matrix
+unfoldable pub detRows : Row → Row → Row → Float
+detRows p q r =
+    add binary64
+    (sub binary64
+    (mul binary64 (p .a) (minor (q .b) (r .c) (q .c) (r .b)))
+    (mul binary64 (p .b) (minor (q .a) (r .c) (q .c) (r .a))))
+    (mul binary64 (p .c) (minor (q .a) (r .b) (q .b) (r .a)))
+
+-- the same of a matrix: its first three rows and columns
+unfoldable pub determinant : Mat4 → Float
+determinant a = detRows (rowOf a 0) (rowOf a 1) (rowOf a 2)

@@ -1,2 +1,0 @@
--- What the proofs of `matrix` share.
-pub mod Made

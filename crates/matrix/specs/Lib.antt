@@ -1,2 +1,0 @@
--- The definitions that the contracts of `matrix` cite.
-pub mod Mat

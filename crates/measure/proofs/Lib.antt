@@ -1,2 +1,0 @@
--- Laws of the sums, for the proofs of `measure` and of its callers.
-pub mod Terms

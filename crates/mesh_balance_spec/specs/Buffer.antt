@@ -1,0 +1,45 @@
+-- A soup over numbers as one list of numbers, three to a triangle, as a program writes it; and the lengths.
+-- Assumes nothing.
+use mathlib.Core.Path.{_≡_, refl, sym, ap, _∙_}
+use mathlib.Core.List.{List, [], _∷_, _++_, map}
+use Prim.Native.Nat.{ℕ, zero, suc, _+_, _*_, _≤_, _<_}
+use native.Mathlib.Omega.{arith}
+use native.Mathlib.Numerals.{add-one}
+use lib.ListN.{length, length-append}
+use Rattle.mesh_balance_spec.specs.Soup.{Tri, Weight, rev, round, sum, Balanced}
+use Rattle.mesh_balance_spec.specs.Count.{Closed, balanced-closed}
+use Rattle.mesh_balance_spec.specs.Grid.{quad, upto, grid}
+
+module _ {P : Type 0} where
+  abbrev pub flat : List (Tri P) → List P
+  flat [] = []
+  flat (t ∷ ts) = t .0 ∷ t .1 ∷ t .2 ∷ flat ts
+
+  abbrev pub tris : List P → List (Tri P)
+  tris [] = []
+  tris (a ∷ []) = []
+  tris (a ∷ b ∷ []) = []
+  tris (a ∷ b ∷ c ∷ r) = (a, b, c) ∷ tris r
+
+  pub tris-flat : (ts : List (Tri P)) → tris (flat ts) ≡ ts
+  tris-flat [] = refl
+  tris-flat (t ∷ ts) = ap {B = List (Tri P)} (λ r. t ∷ r) (tris-flat ts)
+
+  pub flat-append : (xs ys : List (Tri P)) → flat (xs ++ ys) ≡ flat xs ++ flat ys
+  flat-append [] ys = refl
+  flat-append (t ∷ xs) ys = ap {B = List P} (λ r. t .0 ∷ t .1 ∷ t .2 ∷ r) (flat-append xs ys)
+
+  pub length-flat : (ts : List (Tri P)) → length (flat ts) ≡ 3 * length ts
+  length-flat [] = refl
+  length-flat (t ∷ ts) = omega (arith, length-flat ts)
+
+  -- one more turn of a loop
+  pub upto-more : (i : ℕ) (h : ℕ → List (Tri P)) → upto (i + 1) h ≡ upto i h ++ h i
+  upto-more i h = rw add-one
+
+  pub length-upto : (n m : ℕ) (h : ℕ → List (Tri P)) → ((i : ℕ) → length (h i) ≡ m) → length (upto n h) ≡ n * m
+  length-upto zero m h e = omega arith
+  length-upto (suc n) m h e = omega (arith, length-upto n m h e, e n, length-append (upto n h) (h n))
+
+  pub length-grid : (nu nv : ℕ) (f : ℕ → ℕ → P) → length (grid nu nv f) ≡ 2 * nu * nv
+  length-grid nu nv f = omega (arith, length-upto nu (nv * 2) (λ i. upto nv (λ j. quad (f i j) (f (suc i) j) (f (suc i) (suc j)) (f i (suc j)))) (λ i. length-upto nv 2 (λ j. quad (f i j) (f (suc i) j) (f (suc i) (suc j)) (f i (suc j))) (λ j. refl)))

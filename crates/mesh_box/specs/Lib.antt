@@ -1,0 +1,2 @@
+-- What the contracts of `mesh_box` cite.
+pub mod ZeroBox

@@ -1,0 +1,4 @@
+-- Laws of a mesh in lent slices and of its checks, for the proofs of `mesh_check` and of the crates above it.
+pub mod Sound
+pub mod Stored
+pub mod Tests

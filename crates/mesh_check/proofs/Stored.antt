@@ -1,0 +1,143 @@
+-- The slices of a stored mesh, by parts of the slices before. Assumes nothing.
+use mathlib.Core.Path.{_≡_, refl, sym, ap, _∙_}
+use mathlib.Core.List.{List, [], _∷_, _++_, map, map-map}
+use Prim.Native.Nat.{ℕ, zero, suc, _+_, _*_, _≤_, _<_}
+use native.Mathlib.Omega.{arith}
+use lib.ListN.{length, take, drop, length-append, length-map, take-append-drop}
+use lib.Seq.{paste, length-take-le}
+use lib.Ieee.{Float}
+use Rattle.math.specs.declared.Vec3.{Vec3}
+use Rattle.math_matrix.specs.declared.Mat4.{Mat4}
+use Rattle.math_matrix.specs.Mat.{transformPoint}
+use Rattle.mesh_balance_spec.specs.Soup.{Tri, mapTri}
+use Rattle.mesh_balance_spec.specs.Soup.{flip as flipTri}
+use Rattle.mesh_balance_spec.specs.Buffer.{flat, tris, flat-append}
+use Rattle.mesh_spec.specs.Mesh.{Mesh, append, flip}
+use Rattle.mesh_spec.specs.Edits.{moved}
+use Rattle.mesh_spec.specs.Slices.{flatV, points, triOf, vecOf}
+use Rattle.mesh_spec.specs.SliceLaws.{flat-tris, flat-map, length-tris, points-tris, flatV-flat, flatV-append, flatV-points, length-points}
+use Rattle.mesh_check.specs.declared.TriMesh.{TriMesh}
+use Rattle.mesh_check.specs.State.{State, state, meshOf, stored, Sound}
+use Rattle.mesh_triples.specs.Triples.{eachTo, movedTriple}
+
+abbrev counts : ℕ → ℕ → TriMesh
+counts n k = record { vertices = n; triangles = k }
+
+-- a stored mesh, where its counts and its floats and numbers are known
+stored-is : (m : Mesh) (s : State) (n k : ℕ) (fv : List Float) (ft : List ℕ) → length (m .vertices) ≡ n → length (m .triangles) ≡ k → flatV (m .vertices) ≡ fv → flat (m .triangles) ≡ ft
+    → stored m s ≡ state (counts n k) (fv ++ drop (3 * n) (s .vertices)) (ft ++ drop (3 * k) (s .triangles))
+unfolding stored
+stored-is m s n k fv ft en ek ev et = λ j. state (counts (en j) (ek j)) (ev j ++ drop (3 * en j) (s .vertices)) (et j ++ drop (3 * ek j) (s .triangles))
+
+-- ---- the mesh in the slices
+module _ (s : State) (ok : Sound s) where
+  abbrev n : ℕ
+  n = s .mesh .vertices
+
+  abbrev k : ℕ
+  k = s .mesh .triangles
+
+  abbrev ps : List Vec3
+  ps = points (take (3 * n) (s .vertices))
+
+  abbrev ts : List (Tri ℕ)
+  ts = tris (take (3 * k) (s .triangles))
+
+  pub mesh-vertices : length (meshOf s .vertices) ≡ n
+  unfolding meshOf
+  mesh-vertices = length-points n (take (3 * n) (s .vertices)) (length-take-le (3 * n) (s .vertices) (ok .vertices))
+
+  pub mesh-triangles : length (meshOf s .triangles) ≡ k
+  unfolding meshOf
+  mesh-triangles = length-tris k (take (3 * k) (s .triangles)) (length-take-le (3 * k) (s .triangles) (ok .triangles))
+
+  pub floats : flatV (meshOf s .vertices) ≡ take (3 * n) (s .vertices)
+  unfolding meshOf
+  floats = flatV-points n (take (3 * n) (s .vertices)) (length-take-le (3 * n) (s .vertices) (ok .vertices))
+
+  pub numbers : flat (meshOf s .triangles) ≡ take (3 * k) (s .triangles)
+  unfolding meshOf
+  numbers = flat-tris k (take (3 * k) (s .triangles)) (length-take-le (3 * k) (s .triangles) (ok .triangles))
+
+  -- ---- flip
+  pub stored-flip : stored (flip (meshOf s)) s ≡ state (s .mesh) (s .vertices) (eachTo flipTri k (s .triangles))
+  unfolding flip eachTo meshOf
+  stored-flip =
+      stored-is (flip (meshOf s)) s n k (take (3 * n) (s .vertices)) (flat (map flipTri ts)) mesh-vertices (length-map ts flipTri ∙ mesh-triangles) floats refl
+      ∙ (λ j. state (counts n k) (take-append-drop (3 * n) (s .vertices) j) (flat (map flipTri ts) ++ drop (3 * k) (s .triangles)))
+
+  -- ---- transform
+  triples : (a : Mat4) → flatV (map (transformPoint a) ps) ≡ flat (map (movedTriple a) (tris (take (3 * n) (s .vertices))))
+  triples a =
+      let q = tris (take (3 * n) (s .vertices)) in
+      flatV-flat (map (transformPoint a) ps)
+      ∙ ap {B = List Float} (λ (r : List Vec3). flat (map triOf (map (transformPoint a) r))) (points-tris (take (3 * n) (s .vertices)))
+      ∙ ap {B = List Float} (λ (r : List Vec3). flat (map triOf r)) (map-map (transformPoint a) vecOf q)
+      ∙ ap {B = List Float} flat (map-map triOf (λ t. transformPoint a (vecOf t)) q)
+
+  length-moved : (a : Mat4) → length (map (transformPoint a) ps) ≡ n
+  unfolding meshOf
+  length-moved a = length-map ps (transformPoint a) ∙ mesh-vertices
+
+  pub stored-moved : (a : Mat4) → stored (moved a (meshOf s)) s ≡ state (s .mesh) (eachTo (movedTriple a) n (s .vertices)) (s .triangles)
+  unfolding moved eachTo meshOf
+  stored-moved a =
+      stored-is (moved a (meshOf s)) s n k (flat (map (movedTriple a) (tris (take (3 * n) (s .vertices))))) (take (3 * k) (s .triangles)) (length-moved a) mesh-triangles (triples a) numbers
+      ∙ (λ j. state (counts n k) (flat (map (movedTriple a) (tris (take (3 * n) (s .vertices)))) ++ drop (3 * n) (s .vertices)) (take-append-drop (3 * k) (s .triangles) j))
+
+  pub stored-mirrored : (a : Mat4) → stored (flip (moved a (meshOf s))) s ≡ state (s .mesh) (eachTo (movedTriple a) n (s .vertices)) (eachTo flipTri k (s .triangles))
+  unfolding flip moved eachTo meshOf
+  stored-mirrored a =
+      stored-is (flip (moved a (meshOf s))) s n k (flat (map (movedTriple a) (tris (take (3 * n) (s .vertices))))) (flat (map flipTri ts)) (length-moved a)
+      (length-map ts flipTri ∙ mesh-triangles) (triples a) refl
+
+-- ---- append
+take-map : {A B : Type 0} (f : A → B) (i : ℕ) (l : List A) → map f (take i l) ≡ take i (map f l)
+take-map f zero l = refl
+take-map f (suc i) [] = refl
+take-map {B = B} f (suc i) (x ∷ l) = ap {B = List B} (λ r. f x ∷ r) (take-map f i l)
+
+module _ (s o : State) (ok : Sound s) (fine : Sound o) where
+  abbrev vn : ℕ
+  vn = s .mesh .vertices + o .mesh .vertices
+
+  abbrev tn : ℕ
+  tn = s .mesh .triangles + o .mesh .triangles
+
+  abbrev up : ℕ → ℕ
+  up i = i + s .mesh .vertices
+
+  pub appended-vertices : length (append (meshOf s) (meshOf o) .vertices) ≡ vn
+  unfolding append
+  appended-vertices = length-append (meshOf s .vertices) (meshOf o .vertices) ∙ (λ j. mesh-vertices s ok j + mesh-vertices o fine j)
+
+  pub appended-triangles : length (append (meshOf s) (meshOf o) .triangles) ≡ tn
+  unfolding append
+  appended-triangles =
+      length-append (meshOf s .triangles) (map (mapTri (λ i. i + length (meshOf s .vertices))) (meshOf o .triangles))
+      ∙ (λ j. mesh-triangles s ok j + length-map (meshOf o .triangles) (mapTri (λ i. i + length (meshOf s .vertices))) j)
+      ∙ (λ j. s .mesh .triangles + mesh-triangles o fine j)
+
+  floats-append : flatV (append (meshOf s) (meshOf o) .vertices) ≡ take (3 * s .mesh .vertices) (s .vertices) ++ take (3 * o .mesh .vertices) (o .vertices)
+  unfolding append
+  floats-append = flatV-append (meshOf s .vertices) (meshOf o .vertices) ∙ (λ j. floats s ok j ++ floats o fine j)
+
+  numbers-append : flat (append (meshOf s) (meshOf o) .triangles) ≡ take (3 * s .mesh .triangles) (s .triangles) ++ take (3 * o .mesh .triangles) (map up (o .triangles))
+  unfolding append
+  numbers-append =
+      flat-append (meshOf s .triangles) (map (mapTri (λ i. i + length (meshOf s .vertices))) (meshOf o .triangles))
+      ∙ (λ j. numbers s ok j ++ flat-map (λ i. i + length (meshOf s .vertices)) (meshOf o .triangles) j)
+      ∙ (λ j. take (3 * s .mesh .triangles) (s .triangles) ++ map (λ (i : ℕ). i + mesh-vertices s ok j) (numbers o fine j))
+      ∙ ap {B = List ℕ} (λ (r : List ℕ). take (3 * s .mesh .triangles) (s .triangles) ++ r) (take-map up (3 * o .mesh .triangles) (o .triangles))
+
+  three-sum : (a b : ℕ) → 3 * (a + b) ≡ 3 * a + 3 * b
+  three-sum a b = omega arith
+
+  pub stored-append : stored (append (meshOf s) (meshOf o)) s ≡ state (counts vn tn) (paste (s .vertices) (3 * s .mesh .vertices) (o .vertices) (3 * o .mesh .vertices))
+      (paste (s .triangles) (3 * s .mesh .triangles) (map up (o .triangles)) (3 * o .mesh .triangles))
+  stored-append =
+      let fv = take (3 * s .mesh .vertices) (s .vertices) ++ take (3 * o .mesh .vertices) (o .vertices) in
+      let ft = take (3 * s .mesh .triangles) (s .triangles) ++ take (3 * o .mesh .triangles) (map up (o .triangles)) in
+      stored-is (append (meshOf s) (meshOf o)) s vn tn fv ft appended-vertices appended-triangles floats-append numbers-append
+      ∙ (λ j. state (counts vn tn) (fv ++ drop (three-sum (s .mesh .vertices) (o .mesh .vertices) j) (s .vertices))
+      (ft ++ drop (three-sum (s .mesh .triangles) (o .mesh .triangles) j) (s .triangles)))

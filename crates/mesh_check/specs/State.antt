@@ -1,0 +1,71 @@
+-- A mesh record with its two lent slices, the mesh that they hold, and the checks 8 and 1 of document 01, "Who can be told no". Definitions only.
+use mathlib.Core.Bool.{Bool, true, false, not, _||_, cond}
+use mathlib.Core.List.{List, _++_}
+use Prim.Native.Nat.{ℕ, _*_, _≤_, _<_}
+use lib.ListN.{length, take, drop, getD}
+use lib.Dec.{ltb}
+use lib.Ieee.{Float}
+use lib.Ieee.Scale.{finite}
+use Rattle.slice.specs.Every.{wholePlaces, placesOf, every}
+use Rattle.mesh_balance_spec.specs.Buffer.{flat, tris}
+use Rattle.mesh_spec.specs.Mesh.{Mesh}
+use Rattle.mesh_spec.specs.Slices.{flatV, points}
+use Rattle.refusal.specs.declared.Refusal.{Refusal}
+use Rattle.refusal.specs.declared.Refusal.the-variants.{Accepted, NotFinite, AngleTooLarge, TooManySegments, BadList, PointNotFinite, ShortWork, NoRoom, BadMesh}
+use Rattle.mesh_check.specs.declared.TriMesh.{TriMesh}
+
+-- the record and the slices as a call finds or leaves them
+pub record State : Type 0 where
+  pub mesh : TriMesh
+  pub vertices : List Float
+  pub triangles : List ℕ
+
+abbrev pub state : TriMesh → List Float → List ℕ → State
+state m vs ts = record { mesh = m; vertices = vs; triangles = ts }
+
+-- the mesh: the counted vertices and the counted triangles
+unfoldable pub meshOf : State → Mesh
+meshOf s = record { vertices = points (take (3 * s .mesh .vertices) (s .vertices)); triangles = tris (take (3 * s .mesh .triangles) (s .triangles)) }
+
+-- a mesh laid at the start of both slices: its counts, and what stands beyond them as it was
+unfoldable pub stored : Mesh → State → State
+stored m s = record {
+  mesh = record { vertices = length (m .vertices); triangles = length (m .triangles) };
+  vertices = flatV (m .vertices) ++ drop (3 * length (m .vertices)) (s .vertices);
+  triangles = flat (m .triangles) ++ drop (3 * length (m .triangles)) (s .triangles);
+}
+
+-- 8: a count beyond its slice or above 4,294,967,295, or a triangle number at or above the vertex count
+unfoldable pub badMesh : State → Bool
+unfolding wholePlaces every
+badMesh s =
+    ltb (placesOf (s .vertices)) (s .mesh .vertices)
+    || ltb (placesOf (s .triangles)) (s .mesh .triangles)
+    || not (every (λ i. ltb i (s .mesh .vertices)) (take (3 * s .mesh .triangles) (s .triangles)))
+
+-- 1: a coordinate of a counted vertex is not finite
+unfoldable pub notFinite : State → Bool
+unfolding every
+notFinite s = not (every finite (take (3 * s .mesh .vertices) (s .vertices)))
+
+-- the counted places lie in the slices, and the numbers are below the vertex count
+pub record Sound (s : State) : Type 0 where
+  pub vertices : 3 * s .mesh .vertices ≤ length (s .vertices)
+  pub triangles : 3 * s .mesh .triangles ≤ length (s .triangles)
+  pub below : (i : ℕ) → i < 3 * s .mesh .triangles → getD (s .triangles) i 0 < s .mesh .vertices
+
+-- no refusal
+abbrev pub isAccepted : Refusal → Bool
+isAccepted Accepted = true
+isAccepted NotFinite = false
+isAccepted AngleTooLarge = false
+isAccepted TooManySegments = false
+isAccepted BadList = false
+isAccepted PointNotFinite = false
+isAccepted ShortWork = false
+isAccepted NoRoom = false
+isAccepted BadMesh = false
+
+-- what every mesh call checks first: 8, then 1
+unfoldable pub checkOf : State → Refusal
+checkOf s = cond (badMesh s) BadMesh (cond (notFinite s) NotFinite Accepted)

@@ -1,0 +1,19 @@
+// What every mesh call checks: refusal 8 of document 01.
+ghost use mathlib.Core.Path.{_≡_};
+ghost use Rattle.mesh_check.specs.State.{state, badMesh};
+use crate::TriMesh;
+
+// 8: a count beyond its slice or above 4,294,967,295, or a number at or above the vertex count.
+pub fn bad_mesh(mesh: TriMesh, vertices: &[f64], triangles: &[u32]) -> bool
+    ensures { λ r. ⌜ r ≡ badMesh (state mesh (now (vertices .entry)) (now (triangles .entry))) ⌝ }
+{
+    let n = mesh.vertices;
+    let k = mesh.triangles;
+    if slice::whole_places(vertices.len()) < n {
+        return true;
+    }
+    if slice::whole_places(triangles.len()) < k {
+        return true;
+    }
+    !slice::all_below(triangles, 3 * k, n as u32)
+}

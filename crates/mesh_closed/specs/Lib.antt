@@ -1,0 +1,2 @@
+-- What the contracts of `mesh_closed` cite.
+pub mod Even

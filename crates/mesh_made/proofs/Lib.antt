@@ -1,0 +1,2 @@
+-- Laws that the proofs of `mesh_made` and of its callers use.
+pub mod Ending

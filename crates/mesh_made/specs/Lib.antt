@@ -1,0 +1,2 @@
+-- What the contracts of `mesh_made` cite.
+pub mod Ends

@@ -1,0 +1,2 @@
+-- Laws that several proofs of this crate use, and some of `tessellate_place`.
+pub mod Readings

@@ -1,0 +1,2 @@
+-- The definitions that the contracts of `mesh_measures` cite.
+pub mod Measures

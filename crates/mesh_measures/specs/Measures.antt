@@ -1,0 +1,29 @@
+-- The measures of a mesh in lent slices, with refusals 8 and 1 of document 01. A refused measure answers zeros. Definitions only.
+use mathlib.Core.Bool.{cond}
+use lib.Ieee.{Float, binary64, toBits}
+use Rattle.mesh_spec.specs.Mesh.{Mesh}
+use Rattle.mesh_spec.specs.Measures.{signedVolume, area, enclosedVolume, boundingBox}
+use Rattle.mesh_box.specs.ZeroBox.{zeroBox}
+use Rattle.mesh_measures.specs.declared.Measured.{Measured}
+use Rattle.mesh_measures.specs.declared.Boxed.{Boxed}
+use Rattle.mesh_check.specs.State.{State, meshOf, checkOf, isAccepted}
+
+-- an area or volume is answered as its bits; a NaN's are 7FF8000000000000
+unfoldable pub measureOf : (Mesh → Float) → State → Measured
+measureOf f s = record { refusal = checkOf s; bits = cond (isAccepted (checkOf s)) (toBits binary64 (f (meshOf s))) 0 }
+
+-- `signed_volume`
+abbrev pub signedVolumeOf : State → Measured
+signedVolumeOf = measureOf signedVolume
+
+-- `area`
+abbrev pub areaOf : State → Measured
+areaOf = measureOf area
+
+-- enclosed volume
+abbrev pub enclosedVolumeOf : State → Measured
+enclosedVolumeOf = measureOf enclosedVolume
+
+-- `bounding_box`
+unfoldable pub boundingBoxOf : State → Boxed
+boundingBoxOf s = record { refusal = checkOf s; bounds = cond (isAccepted (checkOf s)) (boundingBox (meshOf s)) zeroBox }

@@ -1,0 +1,85 @@
+// The measures of a mesh in lent slices. Each checks the mesh first. They change nothing.
+ghost use mathlib.Core.Path.{_≡_};
+ghost use Rattle.mesh_check.specs.State.{state};
+ghost use Rattle.mesh_measures.specs.Measures.{signedVolumeOf, areaOf, enclosedVolumeOf, boundingBoxOf};
+use math::BoundingBox;
+use mesh_check::TriMesh;
+use refusal::Refusal;
+
+// What a measure answers: refused or accepted, and the bits of the area or volume, 0 where it was refused.
+pub struct Measured {
+    pub refusal: Refusal,
+    pub bits: u64,
+}
+
+// What bounding_box answers: refused or accepted, and the box, all zero where it was refused.
+pub struct Boxed {
+    pub refusal: Refusal,
+    pub bounds: BoundingBox,
+}
+
+// The volume that the triangles enclose, positive where they are counter-clockwise seen from outside.
+pub fn signed_volume(mesh: TriMesh, vertices: &[f64], triangles: &[u32]) -> Measured
+    ensures { λ r. ⌜ r ≡ signedVolumeOf (state mesh (now (vertices .entry)) (now (triangles .entry))) ⌝ }
+{
+    let k = mesh.triangles;
+    let refusal = mesh_check::check(mesh, vertices, triangles);
+    if !mesh_check::accepted(refusal) {
+        return Measured { refusal, bits: 0 };
+    }
+    let x = mesh_sums::volume_sum(vertices, triangles, k) / 6.0;
+    Measured {
+        refusal,
+        bits: slice_bytes::bits_of(x),
+    }
+}
+
+// The absolute value of the signed volume.
+pub fn enclosed_volume(mesh: TriMesh, vertices: &[f64], triangles: &[u32]) -> Measured
+    ensures { λ r. ⌜ r ≡ enclosedVolumeOf (state mesh (now (vertices .entry)) (now (triangles .entry))) ⌝ }
+{
+    let k = mesh.triangles;
+    let refusal = mesh_check::check(mesh, vertices, triangles);
+    if !mesh_check::accepted(refusal) {
+        return Measured { refusal, bits: 0 };
+    }
+    let x = ieee::abs(mesh_sums::volume_sum(vertices, triangles, k) / 6.0);
+    Measured {
+        refusal,
+        bits: slice_bytes::bits_of(x),
+    }
+}
+
+// The area of all triangles.
+pub fn area(mesh: TriMesh, vertices: &[f64], triangles: &[u32]) -> Measured
+    ensures { λ r. ⌜ r ≡ areaOf (state mesh (now (vertices .entry)) (now (triangles .entry))) ⌝ }
+{
+    let k = mesh.triangles;
+    let refusal = mesh_check::check(mesh, vertices, triangles);
+    if !mesh_check::accepted(refusal) {
+        return Measured { refusal, bits: 0 };
+    }
+    let x = mesh_sums::area_sum(vertices, triangles, k);
+    Measured {
+        refusal,
+        bits: slice_bytes::bits_of(x),
+    }
+}
+
+// The box of the vertices.
+pub fn bounding_box(mesh: TriMesh, vertices: &[f64], triangles: &[u32]) -> Boxed
+    ensures { λ r. ⌜ r ≡ boundingBoxOf (state mesh (now (vertices .entry)) (now (triangles .entry))) ⌝ }
+{
+    let n = mesh.vertices;
+    let refusal = mesh_check::check(mesh, vertices, triangles);
+    if !mesh_check::accepted(refusal) {
+        return Boxed {
+            refusal,
+            bounds: mesh_box::zero_box(),
+        };
+    }
+    Boxed {
+        refusal,
+        bounds: mesh_box::plus_zero(mesh_box::box_of(vertices, n)),
+    }
+}

@@ -1,0 +1,46 @@
+-- `mesh_move::keep_finite` meets its contract: by the bounds, by the loop without a division, or by the one with it. Assumes nothing.
+use denote.Ref.{now}
+use mathlib.Core.Path.{sym}
+use Prim.Native.Nat.{_*_}
+use lib.ListN.{take}
+use borrow.Author.Needs.{needs}
+use Rattle.mesh_move_affine.proofs.BoundedLaws.{and-left, and-right, keeps}
+use Rattle.mesh_move.proofs.keep_finite.Statement.{statement}
+use Rattle.mesh_move.proofs.keep_finite.Tie as tie
+
+is-bounded-requires : tie.Need-is-bounded-requires
+is-bounded-requires c κs = tt
+
+returns : tie.Need-returns
+returns c =
+    let a = c .before .before .before .args in
+    let b = c .before .is-bounded in
+    let h = b .ensures (and-right (a .small) (b .result) (c .if1 .taken)) in
+    sym (keeps (a .a) h (take (3 * a .n) (now (a .vertices))) (c .before .before .before .pre .bounded (and-left (a .small) (b .result) (c .if1 .taken))))
+
+is-affine-requires : tie.Need-is-affine-requires
+is-affine-requires c κs = tt
+
+stay-finite-requires : tie.Need-stay-finite-requires
+stay-finite-requires c κs = record { vertices = c .before .before .before .before .before .pre .vertices; affine = c .before .is-affine .ensures (c .if2 .taken) }
+
+returns-2 : tie.Need-returns-2
+returns-2 c = search needs
+
+stay-finite-divided-requires : tie.Need-stay-finite-divided-requires
+stay-finite-divided-requires c κs = c .before .before .before .before .before .pre .vertices .within
+
+returns-3 : tie.Need-returns-3
+returns-3 c = search needs
+
+pub keep-finite-spec : {M : Type 1} → statement M
+keep-finite-spec =
+    tie.close
+    (tie.spec
+    is-bounded-requires
+    returns
+    is-affine-requires
+    stay-finite-requires
+    returns-2
+    stay-finite-divided-requires
+    returns-3)

@@ -1,0 +1,91 @@
+-- Why an affine matrix needs no division: the fourth coordinate of a finite point is 1. Assumes nothing.
+use mathlib.Core.Path.{_≡_, refl, sym, ap, _∙_, subst}
+use mathlib.Core.Logic.{_⊎_, inl, inr}
+use mathlib.Core.Bool.{Bool, true, false, _&&_, false≢true}
+use mathlib.Core.List.{List}
+use Prim.Native.Nat.{ℕ, zero, suc, _+_, _*_, _≤_, _<_}
+use native.Mathlib.Omega.{arith}
+use lib.ListN.{length, take, getD}
+use lib.Dec.{T}
+use lib.Ieee.{Float, nan, binary64, add, mul, eq, ne, fits}
+use lib.Ieee.Scale.{finite}
+use Rattle.ieee.specs.Same.{isZero, Same, plusZero, plus-zero, add-same, mul-zero-l, zero-add-same, eq→same, true-T}
+use Rattle.math.specs.declared.Vec3.{Vec3}
+use Rattle.math_matrix.specs.declared.Mat4.{Mat4}
+use Rattle.math.specs.Vec.{one}
+use Rattle.math_matrix.specs.Mat.{entry, rowOf, along, overW, transformPoint}
+use Rattle.slice.specs.Every.{every}
+use Rattle.mesh_spec.specs.Slices.{vecOf, vertexAt}
+use Rattle.mesh_triples.specs.Triples.{eachTo, movedTriple}
+use Rattle.mesh_move_affine.specs.Affine.{Affine, affinePoint, Movable}
+use Rattle.slice.proofs.Next.{every-at}
+use Rattle.mesh_triples.proofs.Each.{each-read}
+
+-- ---- the tests of the last row
+pub is-zero : (x : Float) → fits binary64 x ≡ true → eq x plusZero ≡ true → T (isZero x)
+unfolding fits
+is-zero x f e = elim (eq→same binary64 x plusZero (true-T (fits binary64 x) f) tt (true-T (eq x plusZero) e)) [
+  | inl p ↦ subst (λ (y : Float). T (isZero y)) (sym p) tt
+  | inr q ↦ q .0
+]
+
+pub is-one : (x : Float) → fits binary64 x ≡ true → eq x one ≡ true → x ≡ one
+unfolding fits
+is-one x f e = elim (eq→same binary64 x one (true-T (fits binary64 x) f) tt (true-T (eq x one) e)) [
+  | inl p ↦ p
+  | inr q ↦ absurd (q .1)
+]
+
+-- the four tests of the last row
+pub is-affine : (a : Mat4) (p q r s : Bool) → (p ≡ true → T (isZero (entry a 3 0))) → (q ≡ true → T (isZero (entry a 3 1))) → (r ≡ true → T (isZero (entry a 3 2)))
+    → (s ≡ true → entry a 3 3 ≡ one) → (p && q && r && s) ≡ true → Affine a
+is-affine a true true true true x y z w e = record { x = x refl; y = y refl; z = z refl; w = w refl }
+is-affine a false q r s x y z w e = absurd (false≢true e)
+is-affine a true false r s x y z w e = absurd (false≢true e)
+is-affine a true true false s x y z w e = absurd (false≢true e)
+is-affine a true true true false x y z w e = absurd (false≢true e)
+
+-- ---- the fourth coordinate
+add-zeros : (x y : Float) → T (isZero x) → T (isZero y) → T (isZero (add binary64 x y))
+unfolding fits
+add-zeros x y u v = elim (add-same binary64 x plusZero y plusZero (inr (u, tt)) (inr (v, tt))) [
+  | inl p ↦ subst (λ (z : Float). T (isZero z)) (sym (p ∙ plus-zero binary64 plusZero tt)) tt
+  | inr q ↦ q .0
+]
+
+zero-and-one : (z : Float) → T (isZero z) → add binary64 z one ≡ one
+unfolding fits
+zero-and-one z u = elim (zero-add-same binary64 z one u tt) [
+  | inl p ↦ p
+  | inr q ↦ absurd (q .1)
+]
+
+module _ (a : Mat4) (h : Affine a) where
+  fourth : (p : Vec3) → T (finite (p .x)) → T (finite (p .y)) → T (finite (p .z)) → along (rowOf a 3) p ≡ one
+  unfolding along
+  fourth p fx fy fz =
+      let x = mul binary64 (entry a 3 0) (p .x) in
+      let y = mul binary64 (entry a 3 1) (p .y) in
+      let z = mul binary64 (entry a 3 2) (p .z) in
+      let s = add binary64 (add binary64 x y) z in
+      let zx : T (isZero x) = mul-zero-l binary64 (entry a 3 0) (p .x) (h .x) fx in
+      let zy : T (isZero y) = mul-zero-l binary64 (entry a 3 1) (p .y) (h .y) fy in
+      let zz : T (isZero z) = mul-zero-l binary64 (entry a 3 2) (p .z) (h .z) fz in
+      ap {B = Float} (add binary64 s) (h .w) ∙ zero-and-one s (add-zeros (add binary64 x y) z (add-zeros x y zx zy) zz)
+
+  pub affine-point : (p : Vec3) → T (finite (p .x)) → T (finite (p .y)) → T (finite (p .z)) → affinePoint a p ≡ transformPoint a p
+  unfolding transformPoint overW affinePoint ne eq
+  affine-point p fx fy fz = sym (ap {B = Vec3} (overW (along (rowOf a 0) p) (along (rowOf a 1) p) (along (rowOf a 2) p)) (fourth p fx fy fz))
+
+-- vertex i of n finite ones
+pub affine-vertex : (vs : List Float) (n : ℕ) (a : Mat4) → Movable vs n a → (i : ℕ) → i < n → affinePoint a (vertexAt vs i) ≡ transformPoint a (vertexAt vs i)
+affine-vertex vs n a m i h =
+    let at : (j : ℕ) → j < 3 * n → T (finite (getD vs j nan)) = λ j k. true-T (finite (getD vs j nan)) (every-at finite vs (3 * n) j nan (m .vertices .finite) k (m .vertices .within)) in
+    affine-point a (m .affine) (vertexAt vs i) (at (3 * i) (omega arith)) (at (3 * i + 1) (omega arith)) (at (3 * i + 2) (omega arith))
+
+-- the same where the vertices before it are moved already
+pub affine-moved : (vs : List Float) (n : ℕ) (a : Mat4) → Movable vs n a → (i : ℕ) → i < n → (out : List Float) → out ≡ eachTo (movedTriple a) i vs
+    → affinePoint a (vertexAt out i) ≡ transformPoint a (vertexAt out i)
+affine-moved vs n a m i h out e =
+    let q : vertexAt out i ≡ vertexAt vs i = ap {B = Vec3} (λ (o : List Float). vertexAt o i) e ∙ ap {B = Vec3} vecOf (each-read (movedTriple a) vs i nan (omega (arith, m .vertices .within))) in
+    subst (λ (p : Vec3). affinePoint a p ≡ transformPoint a p) (sym q) (affine-vertex vs n a m i h)

@@ -1,0 +1,171 @@
+-- What `fromSoup` gives: a proper mesh for every soup, and a closed one for a finite soup that is balanced after `+ 0.0`. Assumes nothing.
+use mathlib.Core.Path.{_≡_, refl, sym, ap, _∙_, subst}
+use mathlib.Core.Bool.{Bool, true, false, not, _&&_, cond}
+use mathlib.Core.List.{List, [], _∷_, _++_, map, append-nil, append-assoc}
+use Prim.Native.Nat.{ℕ, _≤_, _<_}
+use native.Mathlib.Nat.{le-trans}
+use native.Mathlib.Omega.{arith}
+use lib.ListN.{length}
+use lib.Dec.{T, eqb, ltb, ltb→lt, lt→ltb}
+use lib.Ieee.Fits.{and-l, and-r, and-i}
+use borrow.Author.Tests.{eqb-true, eqb-false, eq-eqb, ne-eqb}
+use Rattle.ieee.specs.Same.{true-T, T-true}
+use Rattle.math.specs.declared.Vec3.{Vec3}
+use Rattle.mesh_balance_spec.specs.Soup.{Tri, mapTri, Balanced}
+use Rattle.mesh_balance_spec.specs.Count as Count
+use Rattle.mesh_balance_spec.specs.Count.{keepIf, welded-closed}
+use Rattle.math.specs.Vec.{vFinite}
+use Rattle.mesh_spec.specs.Mesh.{Mesh, noMesh, plusZeroV, samePoint, firstSight, withPoint, distinct, weldTriangle, weldSoup, fromSoup, everyFinite}
+use Rattle.mesh_spec.specs.Closed.{allOf, below, Closed, Proper}
+use Rattle.mesh_spec.specs.WeldLaws.{with-longer, with-front, sight-stays, sight-with, sight-there}
+use Rattle.mesh_spec.specs.SelfSame.{same-self}
+
+-- ---- proper
+module _ (j k : Tri ℕ → Bool) (weaker : (t : Tri ℕ) → T (j t) → T (k t)) where
+  -- a test that every triangle passes is made weaker, and one triangle more passes it
+  all-more : (ts : List (Tri ℕ)) (t : Tri ℕ) → T (allOf j ts) → T (k t) → T (allOf k (ts ++ (t ∷ [])))
+  unfolding allOf
+  all-more [] t s h = and-i (k t) true h tt
+  all-more (x ∷ ts) t s h =
+      and-i (k x) (allOf k (ts ++ (t ∷ []))) (weaker x (and-l (j x) (allOf j ts) s)) (all-more ts t (and-r (j x) (allOf j ts) s) h)
+
+  all-weaker : (ts : List (Tri ℕ)) → T (allOf j ts) → T (allOf k ts)
+  unfolding allOf
+  all-weaker [] s = tt
+  all-weaker (x ∷ ts) s = and-i (k x) (allOf k ts) (weaker x (and-l (j x) (allOf j ts) s)) (all-weaker ts (and-r (j x) (allOf j ts) s))
+
+  all-offered : (ts : List (Tri ℕ)) (t : Tri ℕ) (b : Bool) → T (allOf j ts) → (T b → T (k t)) → T (allOf k (cond b (ts ++ (t ∷ [])) ts))
+  all-offered ts t true s h = all-more ts t s (h tt)
+  all-offered ts t false s h = all-weaker ts s
+
+there : (n : ℕ) (t : Tri ℕ) → t .0 < n → t .1 < n → t .2 < n → T (below n t)
+there n t h k l = and-i (ltb (t .0) n && ltb (t .1) n) (ltb (t .2) n) (and-i (ltb (t .0) n) (ltb (t .1) n) (lt→ltb (t .0) n h) (lt→ltb (t .1) n k)) (lt→ltb (t .2) n l)
+
+below-more : (m n : ℕ) → m ≤ n → (t : Tri ℕ) → T (below m t) → T (below n t)
+below-more m n l t s =
+    let p : Bool = ltb (t .0) m in
+    let q : Bool = ltb (t .1) m in
+    let r : Bool = ltb (t .2) m in
+    let ab : T (p && q) = and-l (p && q) r s in
+    there n t (le-trans (ltb→lt (t .0) m (and-l p q ab)) l) (le-trans (ltb→lt (t .1) m (and-r p q ab)) l) (le-trans (ltb→lt (t .2) m (and-r (p && q) r s)) l)
+
+triangle-proper : (S : Mesh) (t : Tri Vec3) → Proper S → Proper (weldTriangle S t)
+unfolding weldTriangle
+triangle-proper S t P =
+    let a : Vec3 = plusZeroV (t .0) in
+    let b : Vec3 = plusZeroV (t .1) in
+    let c : Vec3 = plusZeroV (t .2) in
+    let us : List Vec3 = S .vertices in
+    let ua : List Vec3 = withPoint us a in
+    let ub : List Vec3 = withPoint ua b in
+    let uc : List Vec3 = withPoint ub c in
+    let ids : Tri ℕ = (firstSight us a, firstSight ua b, firstSight ub c) in
+    let la : length us ≤ length ua = with-longer us a in
+    let lb : length ua ≤ length ub = with-longer ua b in
+    let lc : length ub ≤ length uc = with-longer ub c in
+    record {
+      noneTwice = all-offered distinct distinct (λ x h. h) (S .triangles) ids (distinct ids) (P .noneTwice) (λ h. h);
+      allThere = all-offered (below (length us)) (below (length uc)) (below-more (length us) (length uc) (omega arith)) (S .triangles) ids (distinct ids) (P .allThere)
+          (λ h. there (length uc) ids (omega (arith, sight-there us a)) (omega (arith, sight-there ua b)) (sight-there ub c));
+    }
+
+soup-proper : (S : Mesh) (soup : List (Tri Vec3)) → Proper S → Proper (weldSoup S soup)
+unfolding weldSoup
+soup-proper S [] P = P
+soup-proper S (t ∷ soup) P = soup-proper (weldTriangle S t) soup (triangle-proper S t P)
+
+-- no triangle of a welded mesh names one vertex twice or a vertex that isn't there
+pub fromSoup-proper : (soup : List (Tri Vec3)) → Proper (fromSoup soup)
+unfolding fromSoup allOf
+fromSoup-proper soup = soup-proper noMesh soup (record { noneTwice = tt; allThere = tt })
+
+-- ---- closed
+-- us is the front of vs
+record Front (us vs : List Vec3) : Type 0 where
+  rest : List Vec3
+  splits : vs ≡ us ++ rest
+
+front-then : {us vs ws : List Vec3} → Front us vs → Front vs ws → Front us ws
+front-then {us} f g = record { rest = f .rest ++ g .rest; splits = g .splits ∙ ap (λ (l : List Vec3). l ++ g .rest) (f .splits) ∙ append-assoc us (f .rest) (g .rest) }
+
+front-with : (us : List Vec3) (p : Vec3) → Front us (withPoint us p)
+front-with us p = let f = with-front us p in record { rest = f .0; splits = f .1 }
+
+triangle-front : (S : Mesh) (t : Tri Vec3) → Front (S .vertices) (weldTriangle S t .vertices)
+unfolding weldTriangle
+triangle-front S t =
+    let ua : List Vec3 = withPoint (S .vertices) (plusZeroV (t .0)) in
+    let ub : List Vec3 = withPoint ua (plusZeroV (t .1)) in
+    front-then (front-with (S .vertices) (plusZeroV (t .0))) (front-then (front-with ua (plusZeroV (t .1))) (front-with ub (plusZeroV (t .2))))
+
+soup-front : (S : Mesh) (soup : List (Tri Vec3)) → Front (S .vertices) (weldSoup S soup .vertices)
+unfolding weldSoup
+soup-front S [] = record { rest = []; splits = sym (append-nil (S .vertices)) }
+soup-front S (t ∷ soup) = front-then (triangle-front S t) (soup-front (weldTriangle S t) soup)
+
+-- a point keeps its number, whatever is welded afterwards
+keeps-number : (us vs : List Vec3) (p : Vec3) → samePoint p p ≡ true → Front (withPoint us p) vs → firstSight us p ≡ firstSight vs p
+keeps-number us vs p r f =
+    sym (ap (λ (l : List Vec3). firstSight l p) (f .splits)
+    ∙ sight-stays (withPoint us p) (f .rest) p (subst (λ (n : ℕ). n < length (withPoint us p)) (sym (sight-with us p r)) (sight-there us p))
+    ∙ sight-with us p r)
+
+eqb-comm : (m n : ℕ) → eqb m n ≡ eqb n m
+eqb-comm m n = go (eqb m n) refl
+  where
+    go : (b : Bool) → eqb m n ≡ b → eqb m n ≡ eqb n m
+    go true e = e ∙ sym (eq-eqb n m (sym (eqb-true m n e)))
+    go false e = e ∙ sym (ne-eqb n m (λ q. eqb-false m n e (sym q)))
+
+same-test : (t : Tri ℕ) → distinct t ≡ Count.distinct t
+same-test t = ap (λ (b : Bool). not (eqb (t .0) (t .1)) && not (eqb (t .1) (t .2)) && not b) (eqb-comm (t .0) (t .2))
+
+offered : (ts ks : List (Tri ℕ)) (t : Tri ℕ) (b : Bool) → cond b (ts ++ (t ∷ [])) ts ++ ks ≡ ts ++ cond b (t ∷ ks) ks
+offered ts ks t true = append-assoc ts (t ∷ []) ks
+offered ts ks t false = refl
+
+-- the triangles after one turn of the loop, and what follows: t is the triangle by the numbers of the turn, u by the final numbers
+turn : (ts ks : List (Tri ℕ)) (t u : Tri ℕ) → t ≡ u → cond (distinct t) (ts ++ (t ∷ [])) ts ++ ks ≡ ts ++ cond (Count.distinct u) (u ∷ ks) ks
+turn ts ks t u e =
+    offered ts ks t (distinct t)
+    ∙ ap (λ (x : Tri ℕ). ts ++ cond (distinct x) (x ∷ ks) ks) e
+    ∙ ap (λ (b : Bool). ts ++ cond b (u ∷ ks) ks) (same-test u)
+
+four : (a b c d : Bool) → (a && b && c && d) ≡ true → (a ≡ true) × (b ≡ true) × (c ≡ true) × (d ≡ true)
+four true true true d h = (refl, refl, refl, h)
+four true true false d h = (refl, refl, h, T-true d (absurd (true-T false h)))
+four true false c d h = (refl, h, T-true c (absurd (true-T false h)), T-true d (absurd (true-T false h)))
+four false b c d h = (h, T-true b (absurd (true-T false h)), T-true c (absurd (true-T false h)), T-true d (absurd (true-T false h)))
+
+-- the welded triangles: each corner by its number in the final mesh, and those with two equal numbers dropped
+pub welded-triangles : (S : Mesh) (soup : List (Tri Vec3)) → everyFinite soup ≡ true
+    → weldSoup S soup .triangles ≡ S .triangles ++ keepIf Count.distinct (map (mapTri (firstSight (weldSoup S soup .vertices))) (map (mapTri plusZeroV) soup))
+unfolding weldSoup weldTriangle everyFinite
+welded-triangles S [] h = sym (append-nil (S .triangles))
+welded-triangles S (t ∷ soup) h =
+    let a : Vec3 = plusZeroV (t .0) in
+    let b : Vec3 = plusZeroV (t .1) in
+    let c : Vec3 = plusZeroV (t .2) in
+    let us : List Vec3 = S .vertices in
+    let ua : List Vec3 = withPoint us a in
+    let ub : List Vec3 = withPoint ua b in
+    let f = four (vFinite (t .0)) (vFinite (t .1)) (vFinite (t .2)) (everyFinite soup) h in
+    let T₁ : Mesh = weldTriangle S t in
+    let vs : List Vec3 = weldSoup T₁ soup .vertices in
+    let last : Front (withPoint ub c) vs = soup-front T₁ soup in
+    let mid : Front ub vs = front-then (front-with ub c) last in
+    let e : _≡_ {A = Tri ℕ} (firstSight us a, firstSight ua b, firstSight ub c) (firstSight vs a, firstSight vs b, firstSight vs c) =
+    (λ i. (
+      keeps-number us vs a (same-self (t .0) (f .0)) (front-then (front-with ua b) mid) i,
+      keeps-number ua vs b (same-self (t .1)
+          (f .1)) mid i,
+      keeps-number ub vs c (same-self (t .2) (f .2)) last i,
+    )) in
+    welded-triangles T₁ soup (f .3) ∙ turn (S .triangles) (keepIf Count.distinct (map (mapTri (firstSight vs)) (map (mapTri plusZeroV) soup)))
+    (firstSight us a, firstSight ua b, firstSight ub c) (firstSight vs a, firstSight vs b, firstSight vs c) e
+
+-- a finite soup that is balanced after `+ 0.0` gives a closed mesh
+pub fromSoup-closed : (soup : List (Tri Vec3)) → Balanced (map (mapTri plusZeroV) soup) → everyFinite soup ≡ true → Closed (fromSoup soup)
+unfolding fromSoup
+fromSoup-closed soup p e =
+    subst Count.Closed (sym (welded-triangles noMesh soup e)) (welded-closed (firstSight (weldSoup noMesh soup .vertices)) (map (mapTri plusZeroV) soup) p)

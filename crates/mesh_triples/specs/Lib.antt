@@ -1,0 +1,2 @@
+-- What the contracts of `mesh_triples` cite.
+pub mod Triples

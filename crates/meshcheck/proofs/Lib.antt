@@ -1,4 +1,0 @@
--- Laws of a mesh in lent slices and of its checks, for the proofs of `meshcheck` and of the crates above it.
-pub mod Sound
-pub mod Stored
-pub mod Tests

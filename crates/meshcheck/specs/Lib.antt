@@ -1,3 +1,0 @@
--- What the contracts of `meshcheck` cite: a mesh in lent slices, and the checks 8 and 1.
-pub mod State
-pub mod StateLaws

@@ -1,2 +1,0 @@
--- The definitions that the contracts of `meshmeasures` cite.
-pub mod Measures

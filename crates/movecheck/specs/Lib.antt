@@ -1,2 +1,0 @@
--- What the contracts of `movecheck` cite: the refusals of `transform`.
-pub mod Transform

@@ -1,0 +1,2 @@
+-- What the contract of `outline_clip` cites.
+pub mod Outcome

@@ -1,0 +1,62 @@
+-- `outline_ears::first_ear` meets its contract. Assumes nothing.
+use denote.Ref.{now}
+use mathlib.Core.Path.{_≡_, refl, sym, ap, _∙_}
+use native.Mathlib.Omega.{arith}
+use Prim.Native.Nat.{_≤_, _-_}
+use lib.ListN.{take}
+use Rattle.outline_ears.specs.Ears.{isEar, firstEar, seek}
+use Rattle.outline_ears.proofs.Laws.{seek-here, seek-on, seek-end, firstEar-is}
+use Rattle.outline_ears.proofs.first_ear.Statement.{statement}
+use Rattle.outline_ears.proofs.first_ear.Tie as tie
+
+abbrev Inv-loop : tie.InvT-loop
+Inv-loop corners e at n k₀ k = (k ≤ n) × (seek (isEar corners e (take n at)) (n - k) k ≡ firstEar corners e (take n at))
+
+abbrev μ-loop : tie.MeasureT-loop
+μ-loop corners e at n k₀ k = n - k
+
+loop-holds : tie.Need-loop-holds Inv-loop μ-loop
+loop-holds c = let d = c .before in (omega arith, firstEar-is (now (d .args .corners)) (now (d .args .at)) (d .args .n) (d .pre) (d .args .e))
+
+is-ear-requires : tie.Need-is-ear-requires Inv-loop μ-loop
+is-ear-requires c κs = (c .loop-test .taken, c .before .before .before .pre)
+
+returns : tie.Need-returns Inv-loop μ-loop
+returns c =
+    let d = c .before .before .before .before .before in
+    let l = c .before .before .before .loop in
+    let p = isEar (now (d .args .corners)) (d .args .e) (take (d .args .n) (now (d .args .at))) in
+    sym (seek-here p (d .args .n) (l .k) (c .before .before .loop-test .taken) (sym (c .before .is-ear .ensures) ∙ c .if1 .taken)) ∙ l .inv .1
+
+add-k : tie.Need-add-k Inv-loop μ-loop
+add-k c = omega (arith, c .before .before .before .before .before .pre .small)
+
+loop-less : tie.Need-loop-less Inv-loop μ-loop
+loop-less c = omega arith
+
+loop-again : tie.Need-loop-again Inv-loop μ-loop
+loop-again c =
+    let d = c .before .before .before .before .before in
+    let l = c .before .before .before .loop in
+    let p = isEar (now (d .args .corners)) (d .args .e) (take (d .args .n) (now (d .args .at))) in
+    (omega arith, seek-on p (d .args .n) (l .k) (c .before .before .loop-test .taken) (sym (c .before .is-ear .ensures) ∙ c .if1 .left) ∙ l .inv .1)
+
+returns-2 : tie.Need-returns-2 Inv-loop μ-loop
+returns-2 c =
+    let d = c .before .before .before in
+    let l = c .before .loop in
+    sym (seek-end (isEar (now (d .args .corners)) (d .args .e) (take (d .args .n) (now (d .args .at)))) (d .args .n) (l .k) (c .loop-test .left)) ∙ l .inv .1
+
+pub first-ear-spec : {M : Type 1} → statement M
+first-ear-spec =
+    tie.close
+    (tie.spec
+    Inv-loop
+    μ-loop
+    loop-holds
+    is-ear-requires
+    returns
+    add-k
+    loop-less
+    loop-again
+    returns-2)

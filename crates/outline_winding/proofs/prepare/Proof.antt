@@ -1,0 +1,63 @@
+-- `outline_winding::prepare` meets its contract. Assumes nothing.
+use denote.Ref.{now}
+use mathlib.Core.Path.{_≡_, refl, sym, ap, _∙_}
+use native.Mathlib.Omega.{arith}
+use Prim.Native.Nat.{_≤_, _*_}
+use lib.ListN.{length}
+use lib.Seq.{length-take-le}
+use Rattle.outline.proofs.Copies.{copied-short, copied-take, prepared-swapped, prepared-as-given, prepared-is}
+-- `outline_winding::prepare` meets its contract. Assumes nothing.
+use borrow.Author.Needs.{needs}
+use Rattle.outline_winding.proofs.prepare.Statement.{statement}
+use Rattle.outline_winding.proofs.prepare.Tie as tie
+
+slice-aggregate-copy-swapped : tie.Need-slice-aggregate-copy-swapped
+slice-aggregate-copy-swapped c = search needs
+
+copy-swapped-requires : tie.Need-copy-swapped-requires
+copy-swapped-requires c κs = search needs
+
+mul-held : tie.Need-mul-held
+mul-held c = omega (arith, copied-short _ _ _ _ (c .before .copy-swapped .ensures))
+
+array-share-prefix-held : tie.Need-array-share-prefix-held
+array-share-prefix-held c = omega (arith, copied-short _ _ _ _ (c .before .copy-swapped .ensures))
+
+slice-aggregate-ccw-polygon : tie.Need-slice-aggregate-ccw-polygon
+slice-aggregate-ccw-polygon c =
+    let o = c .before .before .copy-swapped in
+    sym (length-take-le (2 * o .result) (o .last .1 .0) (omega (arith, copied-short _ _ _ _ (o .ensures))))
+
+ccw-polygon-requires : tie.Need-ccw-polygon-requires
+ccw-polygon-requires c κs =
+    let o = c .before .before .before .copy-swapped in
+    omega (arith, copied-short _ _ _ _ (o .ensures), length-take-le (2 * o .result) (o .last .1 .0) (omega (arith, copied-short _ _ _ _ (o .ensures))))
+
+returns : tie.Need-returns
+returns c =
+    let a = c .before .before .before .before .before .before .before .before .args in
+    let k = c .before .before .before .before .copy-swapped in
+    prepared-is _ _ _ _ (prepared-swapped (now (a .list)) _ (a .swap) (c .before .before .before .before .before .before .if1 .taken)
+    (copied-take (now (a .list)) (k .result) _ _ (k .ensures))) (c .ccw-polygon .ensures)
+
+ccw-polygon-requires-2 : tie.Need-ccw-polygon-requires-2
+ccw-polygon-requires-2 c κs = search needs
+
+returns-2 : tie.Need-returns-2
+returns-2 c =
+    let a = c .before .before .before .before .args in
+    prepared-is _ _ _ _ (prepared-as-given (now (a .list)) (a .swap) (c .before .before .if1 .left)) (c .ccw-polygon2 .ensures)
+
+pub prepare-spec : {M : Type 1} → statement M
+prepare-spec =
+    tie.close
+    (tie.spec
+    slice-aggregate-copy-swapped
+    copy-swapped-requires
+    mul-held
+    array-share-prefix-held
+    slice-aggregate-ccw-polygon
+    ccw-polygon-requires
+    returns
+    ccw-polygon-requires-2
+    returns-2)

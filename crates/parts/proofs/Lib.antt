@@ -1,2 +1,0 @@
--- Laws that the proofs of `parts` use.
-pub mod PartRuns

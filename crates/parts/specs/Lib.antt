@@ -1,3 +1,0 @@
--- What the contracts of `parts` cite.
-pub mod Parts
-pub mod PartsLaws

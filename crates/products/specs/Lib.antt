@@ -1,2 +1,0 @@
--- What the contracts of `products` cite beside the definitions of `matrix`.
-pub mod Pieces

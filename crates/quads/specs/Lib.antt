@@ -1,2 +1,0 @@
--- What the contracts of `quads` cite.
-pub mod Quads

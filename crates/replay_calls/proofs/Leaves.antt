@@ -1,0 +1,17 @@
+-- The counts that a call answers and the slices that it leaves are those of an outcome. Assumes nothing.
+use mathlib.Core.Path.{_≡_, ap, _∙_}
+use mathlib.Core.List.{List}
+use Prim.Native.Nat.{ℕ}
+use lib.Ieee.{Float}
+use Rattle.mesh_check.specs.declared.TriMesh.{TriMesh}
+use Rattle.mesh_check.specs.State.{state}
+use Rattle.mesh.specs.declared.Edited.{Edited}
+use Rattle.mesh.specs.Outcome.{Outcome, Gives}
+use Rattle.outline_clip.specs.Outcome as Clipping
+use Rattle.outline_clip.specs.Outcome.{clipOutline}
+
+pub leaves : {o : Outcome} {e : Edited} {m : TriMesh} {vs : List Float} {ts : List ℕ} → Gives o e vs ts → m ≡ e .mesh → state m vs ts ≡ o .state
+leaves g h i = record { mesh = (h ∙ g .mesh) i; vertices = g .vertices i; triangles = g .triangles i }
+
+pub leaves-slice : (v : List Float) (k n : ℕ) (o : Clipping.Outcome) → o ≡ clipOutline v k → k ≡ n → o .slice ≡ clipOutline v n .slice
+leaves-slice v k n o e h = ap (λ (o : Clipping.Outcome). o .slice) e ∙ ap (λ (j : ℕ). clipOutline v j .slice) h

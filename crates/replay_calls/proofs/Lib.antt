@@ -1,0 +1,2 @@
+-- Laws that the proofs of `replay_calls` use.
+mod Leaves

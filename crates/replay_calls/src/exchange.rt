@@ -1,0 +1,24 @@
+// Exchanging A and B.
+ghost use mathlib.Core.Path.{_≡_};
+ghost use Rattle.replay_slices.specs.Swapped.{swapped};
+use crate::state::State;
+use replay_io::output;
+use replay_slices::swap_floats;
+use replay_slices::swap_words;
+
+// 7: exchanges A and B, with the content of their arrays.
+pub fn exchange(s: State, va: &mut [f64], ta: &mut [u32], vb: &mut [f64], tb: &mut [u32]) -> State
+    ensures { λ r. ⌜ (r .a ≡ s .b) × (r .b ≡ s .a) ⌝ }
+    ensures { λ _. ⌜ (now (va .exit) ≡ swapped (now (vb .entry)) (now (va .entry))) × (now (vb .exit) ≡ swapped (now (va .entry)) (now (vb .entry))) ⌝ }
+    ensures { λ _. ⌜ (now (ta .exit) ≡ swapped (now (tb .entry)) (now (ta .entry))) × (now (tb .exit) ≡ swapped (now (ta .entry)) (now (tb .entry))) ⌝ }
+{
+    swap_floats(va, vb);
+    swap_words(ta, tb);
+    let a = s.a;
+    let b = s.b;
+    State {
+        a: b,
+        b: a,
+        going: output::word(0),
+    }
+}

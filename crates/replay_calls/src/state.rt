@@ -1,0 +1,76 @@
+// The meshes A and B.
+ghost use mathlib.Core.Path.{_≡_};
+ghost use mathlib.Core.Bool.{false};
+ghost use Rattle.replay_calls.specs.States.{noMesh, beginning, goingOn, afterCall};
+use crate::calls::Answer;
+use mesh::TriMesh;
+
+// A mesh as lent: its counts, and the lengths of its two slices.
+pub struct Held {
+    pub mesh: TriMesh,
+    pub floats: usize,
+    pub numbers: usize,
+}
+
+// A and B, and whether the run goes on.
+pub struct State {
+    pub a: Held,
+    pub b: Held,
+    pub going: bool,
+}
+
+fn empty() -> Held
+    ensures { λ r. ⌜ r ≡ noMesh ⌝ }
+{
+    Held {
+        mesh: TriMesh {
+            vertices: 0,
+            triangles: 0,
+        },
+        floats: 0,
+        numbers: 0,
+    }
+}
+
+// Two empty meshes.
+pub fn begun() -> State
+    ensures { λ r. ⌜ r ≡ beginning ⌝ }
+{
+    State {
+        a: empty(),
+        b: empty(),
+        going: true,
+    }
+}
+
+// The run goes on where the result was written.
+pub fn going(s: State, written: bool) -> State
+    ensures { λ r. ⌜ r ≡ goingOn s written ⌝ }
+{
+    let mut t = s;
+    t.going = written;
+    t
+}
+
+pub fn stopped(s: State) -> State
+    ensures { λ r. ⌜ r ≡ goingOn s false ⌝ }
+{
+    going(s, false)
+}
+
+// A is what a call answered, in slices of these lengths.
+pub fn after(s: State, r: Answer, floats: usize, numbers: usize) -> State
+    ensures { λ t. ⌜ t ≡ afterCall s r floats numbers ⌝ }
+{
+    let m = r.mesh;
+    let b = s.b;
+    State {
+        a: Held {
+            mesh: m,
+            floats: floats,
+            numbers: numbers,
+        },
+        b: b,
+        going: r.written,
+    }
+}

@@ -1,0 +1,3 @@
+-- The definitions that the contracts of `replay_format` cite.
+pub mod Layout
+pub mod Lists

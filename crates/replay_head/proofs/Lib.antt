@@ -1,0 +1,3 @@
+-- Laws that the proofs of `replay_head` use.
+mod ByKind
+mod Reading

@@ -1,0 +1,2 @@
+-- Laws that the proofs of `replay_slices` use.
+mod Swapping

@@ -1,0 +1,3 @@
+-- What the contracts of `replay_slices` cite.
+pub mod Filling
+pub mod Swapped

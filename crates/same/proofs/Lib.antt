@@ -1,2 +1,0 @@
--- Laws of `begins`, for the proofs of `same`.
-pub mod Fronts

@@ -1,3 +1,0 @@
--- What the contracts of `same` cite, and a law of it.
-pub mod Begins
-pub mod BeginsLaws

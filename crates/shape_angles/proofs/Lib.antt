@@ -1,0 +1,2 @@
+-- What the proofs of `shape_angles` share.
+pub mod Loops

@@ -1,0 +1,2 @@
+-- What the proofs of `shape_check` share.
+pub mod Order

@@ -1,0 +1,73 @@
+// Refusal 1 of document 01 on what was drawn: a number given is not finite.
+ghost use mathlib.Core.Path.{_≡_};
+ghost use lib.ListN.{take};
+ghost use lib.Ieee.Scale.{finite};
+ghost use Rattle.slice.specs.Every.{every};
+ghost use Rattle.shape.specs.Drawing as Drawing;
+use shape::Shape;
+use transform::TransformOp;
+
+// Whether every number of the shape itself is finite.
+fn shape_finite(shape: Shape) -> bool
+    ensures { λ r. ⌜ r ≡ Drawing.shapeFinite shape ⌝ }
+{
+    match shape {
+        Shape::Box { start, stop } => math::is_finite(start) & math::is_finite(stop),
+        Shape::MultiBox => true,
+        Shape::Sphere { center, radius } => math::is_finite(center) & ieee::is_finite(radius),
+        Shape::SphericalShell {
+            center,
+            radius,
+            shell_width,
+        } => math::is_finite(center) & ieee::is_finite(radius) & ieee::is_finite(shell_width),
+        Shape::Cylinder {
+            start,
+            stop,
+            radius,
+        } => math::is_finite(start) & math::is_finite(stop) & ieee::is_finite(radius),
+        Shape::CylindricalShell {
+            start,
+            stop,
+            radius,
+            shell_width,
+        } => math::is_finite(start)
+            & math::is_finite(stop)
+            & ieee::is_finite(radius)
+            & ieee::is_finite(shell_width),
+        Shape::Polygon { elevation, .. } => ieee::is_finite(elevation),
+        Shape::LinPoly {
+            elevation,
+            length,
+            ..
+        } => ieee::is_finite(elevation) & ieee::is_finite(length),
+        Shape::RotPoly {
+            elevation,
+            start_angle,
+            stop_angle,
+            ..
+        } => ieee::is_finite(elevation)
+            & ieee::is_finite(start_angle)
+            & ieee::is_finite(stop_angle),
+        Shape::Wire { radius } => ieee::is_finite(radius),
+    }
+}
+
+// Whether every float of a list is finite, of which a shape without items reads none.
+fn list_finite(k: usize, list: &[f64]) -> bool
+    ensures { λ r. ⌜ r ≡ every finite (Drawing.listOf k (now (list .entry))) ⌝ }
+{
+    if k == 0 {
+        return true;
+    }
+    slice::all_finite(list, list.len())
+}
+
+// Refusal 1 on the shape, its list and the first `op_count` operations.
+pub fn numbers_bad(shape: Shape, list: &[f64], ops: [TransformOp; 16], op_count: usize) -> bool
+    ensures { λ r. ⌜ r ≡ Drawing.numbersBad shape (now (list .entry)) (take «op_count» ops) ⌝ }
+{
+    let good = shape_finite(shape)
+        & list_finite(shape::item_floats(shape), list)
+        & transform_finite::ops_finite(ops, op_count);
+    !good
+}

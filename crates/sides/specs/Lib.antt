@@ -1,2 +1,0 @@
--- What the contracts of `sides` cite beside the definitions of `soups`.
-pub mod Pieces

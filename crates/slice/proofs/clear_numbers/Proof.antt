@@ -1,0 +1,64 @@
+-- `slice::clear_numbers` meets its contract. Assumes nothing.
+use denote.Ref.{now}
+use Prim.Native.Nat.{ℕ, _+_, _-_}
+use native.Mathlib.Omega.{arith}
+use lib.ListN.{length, length-set}
+use Rattle.slice.proofs.Clearing.{Clearing, clearing-none, clearing-more, clearing-done}
+use Rattle.slice.proofs.clear_numbers.Statement.{statement}
+use Rattle.slice.proofs.clear_numbers.Tie as tie
+
+abbrev Inv-loop : tie.InvT-loop
+Inv-loop s₀ from i₀ s i = Clearing 0 from s₀ s i
+
+abbrev μ-loop : tie.MeasureT-loop
+μ-loop s₀ from i₀ s i = length s₀ - i
+
+loop-holds : tie.Need-loop-holds Inv-loop μ-loop
+loop-holds c = clearing-none 0 (c .args .from) (now (c .args .s))
+
+mul-s : tie.Need-mul-s Inv-loop μ-loop
+mul-s c = omega arith
+
+slice-write-s : tie.Need-slice-write-s Inv-loop μ-loop
+slice-write-s c = omega arith
+
+add-i : tie.Need-add-i Inv-loop μ-loop
+add-i c = omega arith
+
+loop-less : tie.Need-loop-less Inv-loop μ-loop
+loop-less c = omega arith
+
+loop-again : tie.Need-loop-again Inv-loop μ-loop
+loop-again c =
+    let l = c .before .loop in
+    let a = c .before .before .args in
+    record {
+      from = omega arith;
+      within = omega arith;
+      same = simp length-set (l .inv .same);
+      is = clearing-more 0 (a .from) (now (a .s)) _ (l .i) (l .inv) (omega arith);
+    }
+
+same-length : tie.Need-same-length Inv-loop μ-loop
+same-length c = c .before .loop .inv .same
+
+returns : tie.Need-returns Inv-loop μ-loop
+returns c =
+    let l = c .before .loop in
+    let a = c .before .before .args in
+    clearing-done 0 (a .from) (now (a .s)) _ (l .i) (l .inv) (omega arith)
+
+pub clear-numbers-spec : {M : Type 1} → statement M
+clear-numbers-spec =
+    tie.close
+    (tie.spec
+    Inv-loop
+    μ-loop
+    loop-holds
+    mul-s
+    slice-write-s
+    add-i
+    loop-less
+    loop-again
+    same-length
+    returns)

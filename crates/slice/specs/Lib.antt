@@ -1,0 +1,3 @@
+-- What the contracts of `slice` cite.
+pub mod Cleared
+pub mod Every

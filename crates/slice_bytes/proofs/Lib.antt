@@ -1,0 +1,2 @@
+-- Laws that the proofs of `slice_bytes` use.
+pub mod Nan

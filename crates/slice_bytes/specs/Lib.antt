@@ -1,0 +1,2 @@
+-- What the contracts of `slice_bytes` cite.
+pub mod Bytes

@@ -1,3 +1,0 @@
--- What the contracts of `slices` cite.
-pub mod Cleared
-pub mod Every

@@ -1,0 +1,3 @@
+-- What the contract of `solid` asks of a shape and its list.
+pub mod Limits
+pub mod Soups

@@ -1,0 +1,2 @@
+-- What the contracts of `solid_box` cite.
+pub mod Box

@@ -1,0 +1,2 @@
+-- Laws that the proofs of `solid_grid` use.
+pub mod Cells

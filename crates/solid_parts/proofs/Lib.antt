@@ -1,0 +1,2 @@
+-- Laws that the proofs of `solid_parts` use.
+pub mod PartRuns

@@ -1,0 +1,60 @@
+-- `solid_parts::multi_box::weld_box_part` meets its contract. Assumes nothing.
+use native.Mathlib.Omega.{arith}
+use Rattle.solid_parts.proofs.PartRuns.{box-part}
+use Rattle.solid_parts.proofs.multi_box.weld_box_part.Statement.{statement}
+use Rattle.solid_parts.proofs.multi_box.weld_box_part.Tie as tie
+
+mul-point-at : tie.Need-mul-point-at
+mul-point-at c = omega (arith, c .before .before .before .before .pre .1 .1)
+
+point-at-requires : tie.Need-point-at-requires
+point-at-requires c κs = omega (arith, c .before .before .before .before .pre .1 .1)
+
+mul-point-at-2 : tie.Need-mul-point-at-2
+mul-point-at-2 c = omega (arith, c .before .before .before .before .before .pre .1 .1)
+
+add-point-at : tie.Need-add-point-at
+add-point-at c = omega (arith, c .before .before .before .before .before .pre .1 .1)
+
+point-at-requires-2 : tie.Need-point-at-requires-2
+point-at-requires-2 c κs = omega (arith, c .before .before .before .before .before .pre .1 .1)
+
+weld-box-shape-requires : tie.Need-weld-box-shape-requires
+weld-box-shape-requires c κs = (
+  c .before .before .before .before .before .before .before .before .before .pre .0,
+  c .before .before .before .before .before .before .before
+      .before .before .pre .1 .0,
+)
+
+new-part-requires : tie.Need-new-part-requires
+new-part-requires c κs = tt
+
+same-length : tie.Need-same-length
+same-length c = c .before .before .before .before .before .before .before .weld-box-shape .ensures .vlong
+
+same-length-2 : tie.Need-same-length-2
+same-length-2 c = c .before .before .before .before .before .before .before .weld-box-shape .ensures .tlong
+
+same-length-3 : tie.Need-same-length-3
+same-length-3 c = c .before .before .before .before .before .before .before .weld-box-shape .ensures .wlong
+
+returns : tie.Need-returns
+returns c = box-part _ _ _ _ _ _ _ _ _ _ _ _ (c .before .before .before .before .before .before .before .before .before .before .before .before .point-at .ensures) (c .before
+    .before .before .before .before .before .before .before .before .before .before .point-at2 .ensures) (c .before .before .before .before .before .before .before
+    .weld-box-shape .ensures) (c .new-part .ensures)
+
+pub weld-box-part-spec : {M : Type 1} → statement M
+weld-box-part-spec =
+    tie.close
+    (tie.spec
+    mul-point-at
+    point-at-requires
+    mul-point-at-2
+    add-point-at
+    point-at-requires-2
+    weld-box-shape-requires
+    new-part-requires
+    same-length
+    same-length-2
+    same-length-3
+    returns)

@@ -1,0 +1,60 @@
+-- `box_shape` of src/tessellate.rs, and the soups of the cases Box and MultiBox of `tessellate`. Definitions only.
+use mathlib.Core.List.{List, [], _∷_, _++_}
+use mathlib.Core.Bool.{Bool, false, cond}
+use Prim.Native.Nat.{ℕ, zero, suc, _+_, _*_, _/_}
+use lib.ListN.{length, getD}
+use lib.Ieee.{Float, nan, binary64, add, sub, ofBits, le}
+use Rattle.ieee.specs.Number.{tau}
+use Rattle.math.specs.declared.Vec3.{Vec3}
+use Rattle.math.specs.Vec.{new, vMin, vMax}
+use Rattle.solid_spec.specs.Arc.{arcSegments}
+use Rattle.solid_spec.specs.Grid.{Soup}
+use Rattle.solid_spec.specs.ParamBox.{three, paramBox}
+use Rattle.solid_spec.specs.Coords.{cylindricalToCartesian}
+
+-- `TAU - 1e-12`: a span from here on is a full turn
+unfoldable pub fullSpan : Float
+fullSpan = sub binary64 tau (ofBits binary64 0x3D71_9799_812D_EA11)
+
+-- the identity, as a Cartesian box maps its points
+abbrev pub asIs : Vec3 → Vec3
+asIs p = p
+
+-- the high bound of a cylindrical box: where it is full, `Vec3::new(hi[0], lo[1] + TAU, hi[2])`
+unfoldable pub turnedTo : Bool → Vec3 → Vec3 → Vec3
+turnedTo full lo hi = cond full (new (hi .x) (add binary64 (lo .y) tau) (hi .z)) hi
+
+-- `box_shape` in the cylindrical system, from its lower and higher bounds
+unfoldable pub cylindricalBox : Bool → Vec3 → Vec3 → ℕ → Soup
+cylindricalBox full lo hi segments =
+    let high = turnedTo full lo hi in
+    paramBox lo high (three 1 (arcSegments segments (sub binary64 (high .y) (lo .y))) 1) (three false full false) cylindricalToCartesian
+
+-- `span >= TAU - 1e-12`
+unfoldable pub isFull : Float → Bool
+isFull span = le fullSpan span
+
+-- `box_shape`
+unfoldable pub boxShape : Vec3 → Vec3 → Bool → ℕ → Soup
+boxShape a b cylindrical segments =
+    let lo = vMin a b in
+    let hi = vMax a b in
+    cond cylindrical (cylindricalBox (isFull (sub binary64 (hi .y) (lo .y))) lo hi segments)
+    (paramBox lo hi (three 1 1 1) (three false false false) asIs)
+
+-- the case Box of `tessellate`, in its effective system
+abbrev pub boxSoup : Bool → Vec3 → Vec3 → ℕ → Soup
+boxSoup cylindrical start stop segments = boxShape start stop cylindrical segments
+
+-- h 0, h 1, .. h (n - 1)
+abbrev pub parts : ℕ → (ℕ → Soup) → List Soup
+parts zero h = []
+parts (suc n) h = parts n h ++ (h n ∷ [])
+
+-- point i of a lent list, three floats a point
+unfoldable pub pointAt : List Float → ℕ → Vec3
+pointAt v i = new (getD v (3 * i) nan) (getD v (3 * i + 1) nan) (getD v (3 * i + 2) nan)
+
+-- the case MultiBox: each box, two points of the lent list, is a part, in the default system
+unfoldable pub multiBoxParts : Bool → List Float → ℕ → List Soup
+multiBoxParts cylindrical v segments = parts (length v / 6) (λ i. boxShape (pointAt v (2 * i)) (pointAt v (2 * i + 1)) cylindrical segments)

@@ -1,0 +1,2 @@
+-- What the contracts of `solid_sweep` cite.
+pub mod Caps

@@ -1,2 +1,0 @@
--- What the contracts of `stored` cite.
-pub mod Points

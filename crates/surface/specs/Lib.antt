@@ -1,0 +1,4 @@
+-- What the contracts of `surface` cite.
+pub mod Within
+pub mod Turns
+pub mod Pieces

@@ -1,0 +1,4 @@
+-- What the contracts of `surface_box` cite.
+pub mod Faces
+pub mod Flat
+pub mod Guesses

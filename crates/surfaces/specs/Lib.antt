@@ -1,4 +1,0 @@
--- What the contracts of `surfaces` cite.
-pub mod Within
-pub mod Turns
-pub mod Pieces

@@ -1,2 +1,0 @@
--- What the contracts of `sweeps` cite.
-pub mod Caps

@@ -1,0 +1,135 @@
+-- Demand 3 of the mission, whole and as one theorem, on the definitions that the contracts of `tessellate`, `append`, `flip` and `transform` cite. Assumes nothing.
+-- The words are in specs/Words.antt: `Solid` has the conditions, a line for each shape.
+use mathlib.Core.Path.{refl, sym, subst}
+use mathlib.Core.Bool.{Bool, true, false, cond}
+use mathlib.Core.List.{List, [], _∷_}
+use Prim.Native.Nat.{ℕ}
+use lib.ListN.{take}
+use lib.Dec.{ltb}
+use lib.Ieee.{binary64, lt, ofBits}
+use Rattle.math_matrix.specs.declared.Mat4.{Mat4}
+use Rattle.transform.specs.Ops.{folded}
+use Rattle.mesh_spec.specs.Mesh.{Mesh, noMesh, append, flip, fromSoup, appendParts, fromParts}
+use Rattle.mesh_spec.specs.Edits.{transform}
+use Rattle.mesh_spec.specs.Measures.{signedVolume}
+use Rattle.mesh_spec.specs.Closed.{allOf, Closed, NoneTwice, AllThere}
+use Rattle.mesh_spec.specs.ClosedLaws.{append-closed, flip-closed, transform-closed}
+use Rattle.mesh_spec.specs.ProperLaws.{append-none-twice, flip-none-twice, transform-none-twice, append-all-there, flip-all-there, transform-all-there}
+use Rattle.mesh_spec.specs.Welded.{fromSoup-proper}
+use Rattle.solid_spec.specs.Grid.{Soup}
+use Rattle.solid_spec.proofs.PartsBalanced.{EachPart}
+use Rattle.shape.specs.declared.Shape.{Shape}
+use Rattle.shape.specs.declared.Shape.the-variants.{Box, MultiBox, Sphere, SphericalShell, Cylinder, CylindricalShell, Polygon, LinPoly, RotPoly, Wire}
+use Rattle.shape.specs.Drawing.{cylindrical, shapeCs}
+use Rattle.mesh_check.specs.State.{meshOf}
+use Rattle.mesh.specs.Lists.{Call, after, AllBring, KeptByLists, kept-by-lists}
+use Rattle.tessellate_spec.specs.Solid.{outward, solidMesh}
+use Rattle.tessellate_spec.specs.Outcome.{Job, jobParts, weldedMesh, finalMesh}
+use Rattle.tessellate_law.specs.Words.{Accepts, left, given, FitsJob, Solid}
+use Rattle.tessellate_law.specs.AcceptedLaws.{accepted-says, given-final}
+use Rattle.tessellate_law.specs.PartsClosed.{parts-balanced, parts-closed}
+
+-- ---- the statement
+
+pub record Demand3 : Type 0 where
+  -- an accepted solid of the list is closed: each directed edge is used exactly as often as its reverse
+  pub closed : (j : Job) (nv nt nw : ℕ) → Accepts j nv nt nw → FitsJob j → Solid (j .shape) (j .list) → Closed (given j nv nt nw)
+  -- of every accepted shape, no triangle names one vertex twice
+  pub noneTwice : (j : Job) (nv nt nw : ℕ) → Accepts j nv nt nw → NoneTwice (given j nv nt nw)
+  -- nor a vertex that isn't there
+  pub allThere : (j : Job) (nv nt nw : ℕ) → Accepts j nv nt nw → AllThere (given j nv nt nw)
+  -- any list of appends, flips and transforms keeps each of the three, for any start
+  pub lists : KeptByLists
+  -- so an accepted solid of the list is closed after any list of calls in which each mesh appended is closed
+  pub closedAfter : (j : Job) (nv nt nw : ℕ) → Accepts j nv nt nw → FitsJob j → Solid (j .shape) (j .list)
+      → (calls : List Call) → AllBring Closed calls (left j nv nt nw) → Closed (meshOf (after (left j nv nt nw) calls))
+
+-- ---- what the mesh of a job keeps
+
+-- a property of the empty mesh, of each welded soup, and kept by the three edits
+record Held (P : Mesh → Type 0) : Type 0 where
+  empty : P noMesh
+  appended : (m o : Mesh) → P m → P o → P (append m o)
+  flipped : (m : Mesh) → P m → P (flip m)
+  transformed : (a : Mat4) (m : Mesh) → P m → P (transform a m)
+
+module _ (P : Mesh → Type 0) (k : Held P) where
+  appended-parts : (m : Mesh) (ps : List Soup) → P m → EachPart (λ s. P (fromSoup s)) ps → P (appendParts m ps)
+  unfolding appendParts
+  appended-parts m [] h e = h
+  appended-parts m (p ∷ ps) h e = appended-parts (append m (fromSoup p)) ps (k .appended m (fromSoup p) h (e .0)) (e .1)
+
+  parts : (ps : List Soup) → EachPart (λ s. P (fromSoup s)) ps → P (fromParts ps)
+  unfolding fromParts
+  parts ps e = appended-parts noMesh ps (k .empty) e
+
+  turned : (m : Mesh) → P m → P (outward m)
+  unfolding outward
+  turned m h = go (lt (signedVolume m) (ofBits binary64 0))
+    where
+      go : (b : Bool) → P (cond b (flip m) m)
+      go true = k .flipped m h
+      go false = h
+
+  solid : (s : Shape) (ps : List Soup) → P (fromParts ps) → P (solidMesh s ps)
+  unfolding solidMesh
+  solid (Box a b) ps h = h
+  solid MultiBox ps h = h
+  solid (Sphere c r) ps h = h
+  solid (SphericalShell c r w) ps h = h
+  solid (Cylinder a b r) ps h = h
+  solid (CylindricalShell a b r w) ps h = h
+  solid (Polygon n e) ps h = h
+  solid (LinPoly n e l) ps h = h
+  solid (RotPoly n e a s t) ps h = turned (fromParts ps) h
+  solid (Wire r) ps h = h
+
+  final : (j : Job) → EachPart (λ s. P (fromSoup s)) (jobParts j) → P (finalMesh j)
+  unfolding finalMesh weldedMesh
+  final j e = go (ltb 0 (j .count))
+    where
+      welded : P (weldedMesh j)
+      welded = unfold weldedMesh in solid (j .shape) (jobParts j) (parts (jobParts j) e)
+
+      go : (b : Bool) → P (cond b (transform (folded (j .degrees) (take (j .count) (j .ops))) (weldedMesh j)) (weldedMesh j))
+      go true = k .transformed (folded (j .degrees) (take (j .count) (j .ops))) (weldedMesh j) welded
+      go false = welded
+
+each : (Q : Soup → Type 0) → ((s : Soup) → Q s) → (ps : List Soup) → EachPart Q ps
+each Q h [] = tt
+each Q h (p ∷ ps) = (h p, each Q h ps)
+
+-- ---- the proof
+
+is-closed : (j : Job) (nv nt nw : ℕ) → Accepts j nv nt nw → FitsJob j → Solid (j .shape) (j .list) → Closed (given j nv nt nw)
+unfolding jobParts
+is-closed j nv nt nw h f s =
+    let a = accepted-says j nv nt nw h in
+    let d = a .drawing in
+    let cyl = cylindrical (shapeCs (j .shape) (j .own) (j .default)) in
+    let b = parts-balanced cyl (j .list) (j .options) (d .segments-most) (f .list) (j .shape) (f .shape) (d .shape-finite) (d .list-finite) s in
+    subst Closed (sym (given-final j nv nt nw h))
+    (final Closed (record { empty = λ u v. refl; appended = append-closed; flipped = flip-closed; transformed = transform-closed }) j (parts-closed (jobParts j) b (a .soup)))
+
+is-none-twice : (j : Job) (nv nt nw : ℕ) → Accepts j nv nt nw → NoneTwice (given j nv nt nw)
+unfolding allOf
+is-none-twice j nv nt nw h =
+    subst NoneTwice (sym (given-final j nv nt nw h))
+    (final NoneTwice (record { empty = tt; appended = append-none-twice; flipped = flip-none-twice; transformed = transform-none-twice }) j
+    (each (λ s. NoneTwice (fromSoup s)) (λ s. fromSoup-proper s .noneTwice) (jobParts j)))
+
+is-all-there : (j : Job) (nv nt nw : ℕ) → Accepts j nv nt nw → AllThere (given j nv nt nw)
+unfolding allOf
+is-all-there j nv nt nw h =
+    subst AllThere (sym (given-final j nv nt nw h))
+    (final AllThere (record { empty = tt; appended = append-all-there; flipped = flip-all-there; transformed = transform-all-there }) j
+    (each (λ s. AllThere (fromSoup s)) (λ s. fromSoup-proper s .allThere) (jobParts j)))
+
+pub demand3 : Demand3
+demand3 = record {
+  closed = is-closed;
+  noneTwice = is-none-twice;
+  allThere = is-all-there;
+  lists = kept-by-lists;
+  closedAfter = λ j nv nt nw h f s calls b. kept-by-lists .closed (left j nv nt nw) calls (is-closed j nv nt nw h f s) b;
+}

@@ -1,0 +1,244 @@
+-- Document 01, "Both edges, with figures": every figure marked (P), in one table under one theorem, by computation on the definitions that the contracts cite.
+-- Assumes nothing.
+use mathlib.Core.Path.{_≡_, refl, ap, _∙_, subst}
+use mathlib.Core.Bool.{false}
+use mathlib.Core.List.{List, [], _∷_}
+use Prim.Native.Nat.{ℕ}
+use native.Mathlib.Omega.{arith}
+use lib.IntN.{pos, negsuc}
+use lib.ListN.{length, take}
+use lib.Ieee.{Float, fin, binary64, add, sub, mul, div, neg, ofInt, ofBits, eq, lt, le, isNan}
+use Rattle.ieee.specs.Number.{minimum, maximum, absolute, ceiling, pi, tau}
+use Rattle.root.specs.Sqrt.{sqrt}
+use Rattle.math.specs.declared.Vec3.{Vec3}
+use Rattle.math.specs.Vec.{axis, withAxis, vSub, vMin, vMax, dot, cross, normSq, norm}
+use Rattle.outline.specs.Corners.{point, same}
+use Rattle.outline.specs.Clean.{endsIn, pushedUnless, pushed, gathered, pickCount, stay, cleanPolygon}
+use Rattle.outline_ears.specs.Ears.{cross as turn, largest, scale, tolerance, within, blocks, any, blocked, before, after, earAt, turning, isEar, isFlat, pickFound, seek, firstEar, firstFlat}
+use Rattle.outline_triangulate.specs.Triangulate.{State, without, clipped, dropped, fans, fan, fanned, byFound, pass, pickState, passes, finished, counting, start, triangulated, triangulatePolygon}
+use Rattle.mesh_spec.specs.Mesh.{Mesh, noMesh, plusZeroV, samePoint, firstSight, withPoint, weldTriangle, weldSoup, fromSoup, append, appendParts, fromParts}
+use Rattle.mesh_spec.specs.Measures.{triangleSoup, sumOf, volumeTerm, areaTerm, signedVolume, area}
+use Rattle.mesh_spec.specs.Closed.{Closed}
+use Rattle.solid_spec.specs.Grid.{grid}
+use Rattle.solid_spec.specs.ParamBox.{coord, facePoint, face, faces, paramBox}
+use Rattle.solid_spec.specs.Sphere.{sphere, sphereSoup}
+use Rattle.solid_spec.specs.Arc.{countedSpan, arcShare, arcSegments}
+use Rattle.solid_spec.specs.Boxes.{boxShape}
+use Rattle.shape.specs.declared.Shape.{Shape}
+use Rattle.shape.specs.declared.Shape.the-variants.{Box, Sphere}
+use Rattle.shape.specs.declared.CoordSystem.the-variants.{Cartesian}
+use Rattle.shape.specs.declared.OwnSystem.the-variants.{Inherited}
+use Rattle.shape.specs.declared.TessellationOptions.{TessellationOptions}
+use Rattle.shape.specs.Drawing.{effectiveCs, shapeCs, cylindrical}
+use Rattle.tessellate_spec.specs.Solid.{partsOf, solidMesh}
+use Rattle.tessellate_spec.specs.Outcome.{Job, jobParts, weldedMesh, finalMesh}
+
+-- ---- the drawings
+
+-- the float n
+abbrev pub float : ℕ → Float
+float n = ofInt binary64 (pos n)
+
+-- the point (a, b, c)
+abbrev pub at : ℕ → ℕ → ℕ → Vec3
+at a b c = record { x = float a; y = float b; z = float c }
+
+-- a shape without a list, Cartesian, with no operations
+abbrev pub drawn : Shape → TessellationOptions → Job
+drawn s o = record { shape = s; list = []; own = Inherited; default = Cartesian; options = o; degrees = false; ops = []; count = 0 }
+
+-- 32 segments and 16 rings
+abbrev pub usual : TessellationOptions
+usual = record { segments = 32; «sphere_rings» = 16 }
+
+-- the box (0,0,0) to (1,2,3)
+abbrev pub box : Mesh
+box = finalMesh (drawn (Box (at 0 0 0) (at 1 2 3)) usual)
+
+-- the box (0,0,0) to (1,2,0)
+abbrev pub flatBox : Mesh
+flatBox = finalMesh (drawn (Box (at 0 0 0) (at 1 2 0)) usual)
+
+-- corners (x, y), two floats each
+abbrev pub corners : List (ℕ × ℕ) → List Float
+corners [] = []
+corners (c ∷ cs) = float (c .0) ∷ float (c .1) ∷ corners cs
+
+abbrev pub square : State
+square = triangulatePolygon (corners ((0, 0) ∷ (1, 0) ∷ (1, 1) ∷ (0, 1) ∷ []))
+
+abbrev pub line : State
+line = triangulatePolygon (corners ((0, 0) ∷ (1, 0) ∷ (2, 0) ∷ (3, 0) ∷ []))
+
+-- ---- the table
+
+pub record Figures : Type 0 where
+  -- Box (0,0,0) to (1,2,3): 8 vertices, 12 triangles
+  pub box-vertices : length (box .vertices) ≡ 8
+  pub box-triangles : length (box .triangles) ≡ 12
+  -- first vertices (0,0,0), (0,0,3), (0,2,3), (0,2,0); first triangles 0 1 2 and 0 2 3
+  pub box-first-vertices : take 4 (box .vertices) ≡ at 0 0 0 ∷ at 0 0 3 ∷ at 0 2 3 ∷ at 0 2 0 ∷ []
+  pub box-first-triangles : take 2 (box .triangles) ≡ (0, 1, 2) ∷ (0, 2, 3) ∷ []
+  -- its area is 22, signed volume 6
+  pub box-area : area box ≡ float 22
+  pub box-volume : signedVolume box ≡ float 6
+  -- Box (0,0,0) to (1,2,0): 4 vertices, 2 triangles, area 2, open
+  pub flat-vertices : length (flatBox .vertices) ≡ 4
+  pub flat-triangles : length (flatBox .triangles) ≡ 2
+  pub flat-area : area flatBox ≡ float 2
+  pub flat-open : Closed flatBox → ⊥
+  -- corners (0,0) (0,0) (1,0) (1,1) (0,0) clean to three
+  pub cleans-to-three : cleanPolygon (corners ((0, 0) ∷ (0, 0) ∷ (1, 0) ∷ (1, 1) ∷ (0, 0) ∷ [])) ≡ corners ((0, 0) ∷ (1, 0) ∷ (1, 1) ∷ [])
+  -- square (0,0) (1,0) (1,1) (0,1): triangles 3 0 1 and 1 2 3, one removed
+  pub square-triangles : square .triangles ≡ 3 ∷ 0 ∷ 1 ∷ 1 ∷ 2 ∷ 3 ∷ []
+  pub square-removed : square .removed ≡ 1
+  -- (0,0) (1,0) (2,0) (3,0): no triangles, one removed
+  pub line-triangles : line .triangles ≡ []
+  pub line-removed : line .removed ≡ 1
+  -- two corners: none
+  pub two-corners : (a b c d : Float) → triangulatePolygon (a ∷ b ∷ c ∷ d ∷ []) .triangles ≡ []
+  -- 32 segments: span 0 gives 1, PI and −PI 16, TAU 32
+  pub span-zero : arcSegments 32 (float 0) ≡ 1
+  pub span-pi : arcSegments 32 pi ≡ 16
+  pub span-minus-pi : arcSegments 32 (neg pi) ≡ 16
+  pub span-tau : arcSegments 32 tau ≡ 32
+  -- roots: 4 gives 2, −0 gives −0, 2⁻¹⁰⁷⁴ gives 2⁻⁵³⁷; `fin s m e` is m × 2^e, negative where s says so, and `negsuc n` is -(n + 1)
+  pub root-four : sqrt binary64 (float 4) ≡ float 2
+  pub root-minus-zero : sqrt binary64 (neg (float 0)) ≡ neg (float 0)
+  pub root-least : sqrt binary64 (fin false 1 (negsuc 1073)) ≡ fin false 1 (negsuc 536)
+  -- sphere r = 0: nothing, for any centre, segments and rings
+  pub no-sphere : (center : Vec3) (o : TessellationOptions) → finalMesh (drawn (Sphere center (float 0)) o) ≡ noMesh
+
+-- ---- what it takes to compute them
+
+unfoldable meshes : Job → Mesh
+unfolding finalMesh weldedMesh jobParts partsOf solidMesh fromParts appendParts append fromSoup weldSoup weldTriangle withPoint firstSight samePoint plusZeroV
+    shapeCs effectiveCs cylindrical boxShape paramBox faces face grid facePoint withAxis coord axis vMin vMax minimum maximum sphereSoup sphere
+    isNan lt le eq add sub mul div ofInt ofBits
+meshes = finalMesh
+
+unfoldable areas : Mesh → Float
+unfolding area triangleSoup sumOf areaTerm vSub cross norm normSq dot sqrt add sub mul div ofInt ofBits
+areas = area
+
+unfoldable clips : List Float → State
+unfolding triangulatePolygon triangulated pickState passes finished start pass byFound fanned dropped clipped without fan fans counting
+    firstEar firstFlat isEar isFlat earAt turning blocked blocks within turn tolerance scale largest any seek pickFound before after
+    point same maximum absolute isNan eq lt le neg add sub mul ofInt ofBits
+clips = triangulatePolygon
+
+unfoldable arcs : ℕ → Float → ℕ
+unfolding arcSegments arcShare countedSpan ceiling minimum absolute isNan lt neg mul div ofInt ofBits
+arcs = arcSegments
+
+-- ---- the proofs
+
+-- the whole mesh of the box
+abbrev boxMesh : Mesh
+boxMesh = record {
+  vertices = at 0 0 0 ∷ at 0 0 3 ∷ at 0 2 3 ∷ at 0 2 0 ∷ at 1 0 0 ∷ at 1 2 0 ∷ at 1 2 3 ∷ at 1 0 3 ∷ [];
+  triangles = (0, 1, 2) ∷ (0, 2, 3) ∷ (4, 5, 6) ∷ (4, 6, 7) ∷ (0, 4, 7) ∷ (0, 7, 1) ∷ (3, 2, 6) ∷ (3, 6, 5) ∷ (0, 3, 5) ∷ (0, 5, 4) ∷ (1, 7, 6) ∷ (1, 6, 2) ∷ [];
+}
+
+box-is : box ≡ boxMesh
+unfolding meshes
+box-is = refl
+
+abbrev flatMesh : Mesh
+flatMesh = record { vertices = at 0 0 0 ∷ at 0 2 0 ∷ at 1 0 0 ∷ at 1 2 0 ∷ []; triangles = (0, 1, 3) ∷ (0, 3, 2) ∷ [] }
+
+flat-is : flatBox ≡ flatMesh
+unfolding meshes
+flat-is = refl
+
+area-is : area boxMesh ≡ float 22
+unfolding areas
+area-is = refl
+
+volume-is : signedVolume boxMesh ≡ float 6
+unfolding signedVolume triangleSoup sumOf volumeTerm cross dot add sub mul div ofInt ofBits
+volume-is = refl
+
+flat-area-is : area flatMesh ≡ float 2
+unfolding areas
+flat-area-is = refl
+
+-- the directed edge (0, 1) is used once, its reverse not at all
+open-is : Closed flatMesh → ⊥
+open-is c = let h : _≡_ {A = ℕ} 1 0 = c 0 1 in omega (arith, h)
+
+cleans : cleanPolygon (corners ((0, 0) ∷ (0, 0) ∷ (1, 0) ∷ (1, 1) ∷ (0, 0) ∷ [])) ≡ corners ((0, 0) ∷ (1, 0) ∷ (1, 1) ∷ [])
+unfolding cleanPolygon gathered pushed pushedUnless endsIn stay pickCount point same eq ofInt
+cleans = refl
+
+square-is : square ≡ record { left = []; triangles = 3 ∷ 0 ∷ 1 ∷ 1 ∷ 2 ∷ 3 ∷ []; removed = 1 }
+unfolding clips
+square-is = refl
+
+line-is : line ≡ record { left = 1 ∷ 2 ∷ 3 ∷ []; triangles = []; removed = 1 }
+unfolding clips
+line-is = refl
+
+two-is : (a b c d : Float) → triangulatePolygon (a ∷ b ∷ c ∷ d ∷ []) .triangles ≡ []
+unfolding clips
+two-is a b c d = refl
+
+zero-span : arcSegments 32 (float 0) ≡ 1
+unfolding arcs
+zero-span = refl
+
+pi-span : arcSegments 32 pi ≡ 16
+unfolding arcs
+pi-span = refl
+
+minus-pi-span : arcSegments 32 (neg pi) ≡ 16
+unfolding arcs
+minus-pi-span = refl
+
+tau-span : arcSegments 32 tau ≡ 32
+unfolding arcs
+tau-span = refl
+
+four-root : sqrt binary64 (float 4) ≡ float 2
+unfolding sqrt ofInt
+four-root = refl
+
+minus-zero-root : sqrt binary64 (neg (float 0)) ≡ neg (float 0)
+unfolding sqrt ofInt neg
+minus-zero-root = refl
+
+least-root : sqrt binary64 (fin false 1 (negsuc 1073)) ≡ fin false 1 (negsuc 536)
+unfolding sqrt
+least-root = refl
+
+sphere-none : (center : Vec3) (o : TessellationOptions) → finalMesh (drawn (Sphere center (float 0)) o) ≡ noMesh
+unfolding meshes
+sphere-none center o = refl
+
+pub figures : Figures
+figures = record {
+  box-vertices = ap (λ (m : Mesh). length (m .vertices)) box-is;
+  box-triangles = ap (λ (m : Mesh). length (m .triangles)) box-is;
+  box-first-vertices = ap (λ (m : Mesh). take 4 (m .vertices)) box-is;
+  box-first-triangles = ap (λ (m : Mesh). take 2 (m .triangles)) box-is;
+  box-area = ap area box-is ∙ area-is;
+  box-volume = ap signedVolume box-is ∙ volume-is;
+  flat-vertices = ap (λ (m : Mesh). length (m .vertices)) flat-is;
+  flat-triangles = ap (λ (m : Mesh). length (m .triangles)) flat-is;
+  flat-area = ap area flat-is ∙ flat-area-is;
+  flat-open = λ c. open-is (subst Closed flat-is c);
+  cleans-to-three = cleans;
+  square-triangles = ap (λ (s : State). s .triangles) square-is;
+  square-removed = ap (λ (s : State). s .removed) square-is;
+  line-triangles = ap (λ (s : State). s .triangles) line-is;
+  line-removed = ap (λ (s : State). s .removed) line-is;
+  two-corners = two-is;
+  span-zero = zero-span;
+  span-pi = pi-span;
+  span-minus-pi = minus-pi-span;
+  span-tau = tau-span;
+  root-four = four-root;
+  root-minus-zero = minus-zero-root;
+  root-least = least-root;
+  no-sphere = sphere-none;
+}

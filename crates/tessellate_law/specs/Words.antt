@@ -1,0 +1,116 @@
+-- The words of demand 3 (document 01, "Words of demand 3"), of the outcomes of `tessellate`. Definitions only.
+-- `Closed`, `NoneTwice` and `AllThere` of a mesh are in crate mesh_spec, specs/Closed.antt; the lists of calls in crate mesh, specs/Lists.antt.
+use mathlib.Core.Path.{_≡_}
+use mathlib.Core.Logic.{_⊎_}
+use mathlib.Core.Bool.{true, false}
+use mathlib.Core.List.{List}
+use Prim.Native.Nat.{ℕ, _+_, _-_, _*_, _/_, _<_}
+use lib.Dec.{T}
+use lib.ListN.{length}
+use lib.Ieee.{Float, binary64, sub, eq, fits}
+use Rattle.ieee.specs.Number.{plusZero, absolute, maximum}
+use Rattle.math.specs.declared.Vec3.{Vec3}
+use Rattle.refusal.specs.declared.Refusal.the-variants.{Accepted}
+use Rattle.outline.specs.Clean.{cleanPolygon}
+use Rattle.outline.specs.Ccw.{pickCorners, swapped, ccwPolygon, prepared}
+use Rattle.mesh_spec.specs.Mesh.{Mesh}
+use Rattle.solid_spec.specs.Boxes.{isFull, pointAt}
+use Rattle.solid_spec.specs.Cylinder.{innerRadius, outerRadius}
+use Rattle.solid_spec.specs.Polygons.{capTriangles, lowEnd, highEnd, swaps}
+use Rattle.solid_spec.proofs.Points.{FitsV}
+use Rattle.solid_spec.proofs.PartsBalanced.{FitsAll}
+use Rattle.shape.specs.declared.Shape.{Shape}
+use Rattle.shape.specs.declared.Shape.the-variants.{Box, MultiBox, Sphere, SphericalShell, Cylinder, CylindricalShell, Polygon, LinPoly, RotPoly, Wire}
+use Rattle.mesh_check.specs.State.{State, state, meshOf}
+use Rattle.tessellate_spec.specs.Outcome.{Job, tessellateOf}
+
+-- ---- accepted, and the mesh
+
+-- `tessellate` returned no refusal
+abbrev pub Accepts : Job → ℕ → ℕ → ℕ → Type 0
+Accepts j nv nt nw = tessellateOf j nv nt nw .refusal ≡ Accepted
+
+-- the record and the two mesh slices as the call leaves them, which is how `append`, `flip` and `transform` take them
+abbrev pub left : Job → ℕ → ℕ → ℕ → State
+left j nv nt nw = let o = tessellateOf j nv nt nw in state (o .mesh) (o .vertices) (o .triangles)
+
+-- the mesh in them: the counted vertices and triangles
+abbrev pub given : Job → ℕ → ℕ → ℕ → Mesh
+given j nv nt nw = meshOf (left j nv nt nw)
+
+-- ---- the floats of a program
+
+-- a float of binary64, as every f64 is; the type `Float` has others too
+abbrev pub Fits : Float → Type 0
+Fits x = T (fits binary64 x)
+
+-- so is each number of a shape
+abbrev pub FitsShape : Shape → Type 0
+FitsShape (Box start stop) = FitsV start × FitsV stop
+FitsShape MultiBox = Unit
+FitsShape (Sphere center radius) = FitsV center × Fits radius
+FitsShape (SphericalShell center radius width) = FitsV center × Fits radius × Fits width
+FitsShape (Cylinder start stop radius) = FitsV start × FitsV stop × Fits radius
+FitsShape (CylindricalShell start stop radius width) = FitsV start × FitsV stop × Fits radius × Fits width
+FitsShape (Polygon normal elevation) = Fits elevation
+FitsShape (LinPoly normal elevation length) = Fits elevation × Fits length
+FitsShape (RotPoly normal elevation axis start stop) = Fits elevation × Fits start × Fits stop
+FitsShape (Wire radius) = Fits radius
+
+-- and of a job's shape and list
+pub record FitsJob (j : Job) : Type 0 where
+  pub shape : FitsShape (j .shape)
+  pub list : FitsAll (j .list)
+
+-- ---- the conditions
+
+-- they differ as floats: -0.0 equals 0.0
+abbrev pub Unequal : Float → Float → Type 0
+Unequal x y = eq x y ≡ false
+
+-- three unequal pairs of bounds, as given
+pub record UnequalBounds (a b : Vec3) : Type 0 where
+  pub x : Unequal (a .x) (b .x)
+  pub y : Unequal (a .y) (b .y)
+  pub z : Unequal (a .z) (b .z)
+
+-- box i of a multi-box's list is its points 2 i and 2 i + 1
+abbrev pub EachUnequal : List Float → Type 0
+EachUnequal v = (i : ℕ) → i < length v / 6 → UnequalBounds (pointAt v (2 * i)) (pointAt v (2 * i + 1))
+
+-- the inner radius of a shell after clamping, `(r - w).max(0.0)` with w half the width, and the outer one, `r + w`
+abbrev pub UnequalRadii : Float → Float → Type 0
+UnequalRadii radius width = Unequal (outerRadius radius width) (maximum (innerRadius radius width) plusZero)
+
+-- the two heights at which an extruded outline's caps are put, `e.min(e + l)` and `e.max(e + l)`
+abbrev pub UnequalEnds : Float → Float → Type 0
+UnequalEnds elevation length = Unequal (highEnd elevation length) (lowEnd elevation length)
+
+-- a rotated outline makes a full turn: its computed span, `(stop - start).abs()`, is at least TAU - 1e-12
+abbrev pub FullTurn : Float → Float → Type 0
+FullTurn start stop = isFull (absolute (sub binary64 stop start)) ≡ true
+
+-- n, where clean_polygon leaves n corners of v, two floats each
+abbrev pub cleaned : List Float → ℕ
+cleaned v = length (cleanPolygon v) / 2
+
+-- n - 2 cap triangles: those that `triangulate_polygon` gives for the prepared corners p
+abbrev pub Capped : List Float → ℕ → Type 0
+Capped p n = length (capTriangles p) ≡ n - 2
+
+-- the corners of a rotated outline in (radial, axial) coordinates, the `rh` of `rotpoly`
+abbrev pub radial : ℕ → ℕ → List Float → List Float
+radial axis normal v = pickCorners (swaps axis normal) (swapped v) v
+
+-- the solids of demand 3, with what it asks of each. A polygon is a sheet and not in its list
+abbrev pub Solid : Shape → List Float → Type 0
+Solid (Sphere center radius) v = Unit
+Solid (SphericalShell center radius width) v = Unit
+Solid (Cylinder start stop radius) v = Unit
+Solid (Wire radius) v = Unit
+Solid (Box start stop) v = UnequalBounds start stop
+Solid MultiBox v = EachUnequal v
+Solid (CylindricalShell start stop radius width) v = UnequalRadii radius width
+Solid (LinPoly normal elevation length) v = UnequalEnds elevation length × Capped (ccwPolygon v) (cleaned v)
+Solid (RotPoly normal elevation axis start stop) v = FullTurn start stop ⊎ Capped (prepared (swaps axis normal) v) (cleaned (radial axis normal v))
+Solid (Polygon normal elevation) v = ⊥

@@ -1,0 +1,4 @@
+-- Laws that the proofs of `tessellate_place` use.
+pub mod Lying
+pub mod Turning
+pub mod Moving

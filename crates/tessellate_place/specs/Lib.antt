@@ -1,0 +1,2 @@
+-- What the contracts of `tessellate_place` cite.
+pub mod Ends

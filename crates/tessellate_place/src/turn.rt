@@ -1,0 +1,52 @@
+// The end of the case RotPoly: `if m.signed_volume() < 0.0 { m.flip(); }`.
+ghost use mathlib.Core.Path.{_≡_};
+ghost use lib.ListN.{length};
+ghost use Rattle.mesh_check.specs.State.{state, meshOf, stored, Sound};
+ghost use Rattle.tessellate_spec.specs.Solid.{outward};
+ghost use Rattle.tessellate_place.specs.Ends.{isRotPoly, turned};
+use mesh::TriMesh;
+use shape::Shape;
+
+// Whether the shape is a rotated outline.
+pub fn is_rot_poly(shape: Shape) -> bool
+    ensures { λ r. ⌜ r ≡ isRotPoly shape ⌝ }
+{
+    match shape {
+        Shape::Box { .. } => false,
+        Shape::MultiBox => false,
+        Shape::Sphere { .. } => false,
+        Shape::SphericalShell { .. } => false,
+        Shape::Cylinder { .. } => false,
+        Shape::CylindricalShell { .. } => false,
+        Shape::Polygon { .. } => false,
+        Shape::LinPoly { .. } => false,
+        Shape::RotPoly { .. } => true,
+        Shape::Wire { .. } => false,
+    }
+}
+
+// Turns every triangle where the signed volume is below 0.
+fn turn_outward(counts: TriMesh, vertices: &[f64], triangles: &mut [u32])
+    requires { ⌜ Sound (state counts (now vertices) (now triangles)) ⌝ }
+    ensures { λ _. ⌜ state counts (now (vertices .entry)) (now (triangles .exit))
+        ≡ stored (outward (meshOf (state counts (now (vertices .entry)) (now (triangles .entry))))) (state counts (now (vertices .entry)) (now (triangles .entry))) ⌝ }
+{
+    let k = counts.triangles;
+    let volume = mesh_sums::volume_sum(vertices, triangles, k) / 6.0;
+    if volume < 0.0 {
+        mesh_write::turn_all(triangles, k);
+        return;
+    }
+}
+
+// The same for a rotated outline; other meshes stay.
+pub fn turn_rotated(rotated: bool, counts: TriMesh, vertices: &[f64], triangles: &mut [u32])
+    requires { ⌜ Sound (state counts (now vertices) (now triangles)) ⌝ }
+    ensures { λ _. ⌜ state counts (now (vertices .entry)) (now (triangles .exit))
+        ≡ stored (turned rotated (meshOf (state counts (now (vertices .entry)) (now (triangles .entry))))) (state counts (now (vertices .entry)) (now (triangles .entry))) ⌝ }
+{
+    if rotated {
+        turn_outward(counts, vertices, triangles);
+        return;
+    }
+}

@@ -1,0 +1,2 @@
+-- What the contracts of `tessellate_weld` cite.
+pub mod Steps

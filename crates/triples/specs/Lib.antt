@@ -1,2 +1,0 @@
--- What the contracts of `triples` cite.
-pub mod Triples

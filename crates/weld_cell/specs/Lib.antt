@@ -1,0 +1,2 @@
+-- What the contracts of `weld_cell` cite.
+pub mod Cell

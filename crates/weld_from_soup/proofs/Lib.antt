@@ -1,0 +1,2 @@
+-- Laws that the proofs of `weld_from_soup` use.
+pub mod SoupRuns

@@ -1,0 +1,2 @@
+-- What the contract of `weld_from_soup` cites.
+pub mod Soups

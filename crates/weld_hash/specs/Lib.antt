@@ -1,0 +1,2 @@
+-- What the contracts of `weld_hash` cite.
+pub mod Hash

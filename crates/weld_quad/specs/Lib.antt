@@ -1,0 +1,2 @@
+-- What the contracts of `weld_quad` cite.
+pub mod Quads

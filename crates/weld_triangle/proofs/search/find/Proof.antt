@@ -1,0 +1,88 @@
+-- `weld_triangle::search::find` meets its contract: a case of proofs/Point.antt for each return. Assumes nothing.
+use borrow.Author.Needs.{needs}
+use mathlib.Core.Path.{refl, ap, subst}
+use mathlib.Core.Bool.{Bool, cond}
+use native.Mathlib.Omega.{arith}
+use denote.Ref.{now}
+use Rattle.weld_hash.specs.Hash.{Chained}
+use Rattle.weld.proofs.Places.{places-limit}
+use Rattle.weld_triangle.proofs.Point.{point-at, point-full, point-new}
+use Rattle.weld_triangle.proofs.search.find.Statement.{statement}
+use Rattle.weld_triangle.proofs.search.find.Tie as tie
+
+number-of-requires : tie.Need-number-of-requires
+number-of-requires c κs =
+    let s = c .before .before .before .before in
+    let w = s .args .w in
+    let L = s .pre .0 in (
+      (L .stored, subst (Chained (now (s .args .vertices)) (now (s .args .work)) (w .places) (w .base)) (ap (λ (t : Bool). cond t (w .base) (w .count)) (s .pre .4)) (L .chained)),
+      (omega (arith, s .pre .3, L .stored .within), omega (arith, places-limit (now (s .args .vertices)), L .places), s .pre .1),
+    )
+
+same-length : tie.Need-same-length
+same-length c = search needs
+
+same-length-2 : tie.Need-same-length-2
+same-length-2 c = search needs
+
+returns : tie.Need-returns
+returns c =
+    let s = c .before .before .before .before .before .before .before .before .before .before in
+    let n = c .before .before .before .before .before .number-of in
+    let f = n .ensures .found (c .if1 .taken) in
+    rw (f .1, f .2) (point-at (s .args .w) (now (s .args .vertices)) (now (s .args .work)) (s .pre .0) (s .args .p) (n .result) (s .pre .2) (f .0))
+
+unknown-requires : tie.Need-unknown-requires
+unknown-requires c κs = search needs
+
+grown-requires : tie.Need-grown-requires
+grown-requires c κs =
+    let s = c .before .before .before .before .before .before .before .before .before .before .before .before in
+    omega (arith, places-limit (now (s .args .vertices)), s .pre .0 .places, s .pre .0 .stored .within)
+
+same-length-3 : tie.Need-same-length-3
+same-length-3 c = search needs
+
+same-length-4 : tie.Need-same-length-4
+same-length-4 c = search needs
+
+returns-2 : tie.Need-returns-2
+returns-2 c =
+    let s = c .before .before .before .before .before .before .before .before .before .before .before .before .before in
+    let u = c .before .unknown in
+    let n = c .before .before .before .before .before .before .before .before .number-of .ensures .new (c .before .before .if2 .taken) in
+    rw (n .3, n .4, c .before .before .if2 .taken, c .grown .ensures)
+    (point-new (s .args .w) (now (s .args .vertices)) (now (s .args .work)) (s .pre .0) (s .args .p) (u .result) (u .ensures) (s .pre .4) (s .pre .1) _ refl (n .2) (s .pre .2) (n .0) (n .1))
+
+full-requires : tie.Need-full-requires
+full-requires c κs = search needs
+
+same-length-5 : tie.Need-same-length-5
+same-length-5 c = search needs
+
+same-length-6 : tie.Need-same-length-6
+same-length-6 c = search needs
+
+returns-3 : tie.Need-returns-3
+returns-3 c =
+    let s = c .before .before .before .before .before .before .before .before .before .before .before .before in
+    let f = c .before .before .before .before .before .before .before .number-of .ensures .full (omega (arith, c .before .before .if1 .left, c .before .if2 .left)) in
+    rw (f .2, f .3, c .full .ensures) (point-full (s .args .w) (now (s .args .vertices)) (now (s .args .work)) (s .pre .0) (s .args .p) (s .pre .2) (f .0) (f .1))
+
+pub find-spec : {M : Type 1} → statement M
+find-spec =
+    tie.close
+    (tie.spec
+    number-of-requires
+    same-length
+    same-length-2
+    returns
+    unknown-requires
+    grown-requires
+    same-length-3
+    same-length-4
+    returns-2
+    full-requires
+    same-length-5
+    same-length-6
+    returns-3)

@@ -1,0 +1,2 @@
+-- What the contracts of `weld_triangle` cite.
+pub mod Steps

@@ -1,0 +1,117 @@
+// The steps of one turn of from_soup's loop, for points that came out of `+ 0.0`.
+ghost use Prim.Native.Nat.{_≤_, _<_, _^_};
+ghost use Rattle.weld_vertex.specs.Points.{Clean};
+ghost use Rattle.slice.specs.Every.{placesOf};
+ghost use Rattle.weld.specs.Rep.{held, Linked, Ready};
+ghost use Rattle.weld_triangle.specs.Steps.{PointRuns, TriangleRuns, PointsRun};
+use crate::Welded;
+use crate::search;
+use math::Vec3;
+use weld::Welder;
+
+// One turn of from_soup's loop after `+ 0.0`: the three points get numbers, and the triangle stays where the numbers differ.
+pub fn weld_points(
+    vertices: &mut [f64],
+    triangles: &mut [u32],
+    work: &mut [u32],
+    w: Welder,
+    a: Vec3,
+    b: Vec3,
+    c: Vec3,
+) -> Welder
+    requires { ⌜ Ready (held w (now vertices) (now triangles) (now work)) ⌝ }
+    requires { ⌜ Clean a × Clean b × Clean c ⌝ }
+    ensures { λ r. ⌜ PointsRun a b c
+        (held w (now (vertices .entry)) (now (triangles .entry)) (now (work .entry)))
+        (held r (now (vertices .exit)) (now (triangles .exit)) (now (work .exit))) ⌝ }
+{
+    let u = look_up(vertices, work, w, a);
+    let su = u.st;
+    let v = look_up(vertices, work, su, b);
+    let sv = v.st;
+    let t = look_up(vertices, work, sv, c);
+    let st = t.st;
+    add_triangle(triangles, st, u.number, v.number, t.number)
+}
+
+// Gives a point its number, a guess at which is tried before the look-up.
+pub fn weld_point(
+    vertices: &mut [f64],
+    work: &mut [u32],
+    w: Welder,
+    p: Vec3,
+    guess: usize,
+) -> Welded
+    requires { ⌜ Linked w (now vertices) (now work) × Clean p ⌝ }
+    ensures { λ r. ⌜ PointRuns p w (now (vertices .entry)) (now (work .entry)) r (now (vertices .exit)) (now (work .exit)) ⌝ }
+{
+    let room = w.room;
+    if !room {
+        return Welded { number: 0, st: w };
+    }
+    if weld_vertex::is_at(vertices, w.base, w.count, guess, p) {
+        return Welded {
+            number: guess,
+            st: w,
+        };
+    }
+    look_up(vertices, work, w, p)
+}
+
+// Gives a point its number: that of the first equal vertex of this part, or the next one, with which it is written. A point that the
+// rows show to be new goes into no chain yet.
+pub fn look_up(vertices: &mut [f64], work: &mut [u32], w: Welder, p: Vec3) -> Welded
+    requires { ⌜ Linked w (now vertices) (now work) × Clean p ⌝ }
+    ensures { λ r. ⌜ PointRuns p w (now (vertices .entry)) (now (work .entry)) r (now (vertices .exit)) (now (work .exit)) ⌝ }
+{
+    let room = w.room;
+    if !room {
+        return Welded { number: 0, st: w };
+    }
+    let f = weld::foresee(vertices, w, p);
+    let fresh = f.fresh;
+    if !fresh {
+        return search::search(vertices, work, w, p);
+    }
+    let count = w.count;
+    if count < w.places {
+        weld_vertex::place(vertices, count, p);
+        return Welded {
+            number: count,
+            st: weld::grown(w, f),
+        };
+    }
+    Welded {
+        number: 0,
+        st: weld::full(w),
+    }
+}
+
+// Writes a triangle unless two of its numbers are equal.
+pub fn add_triangle(triangles: &mut [u32], w: Welder, a: usize, b: usize, c: usize) -> Welder
+    requires { ⌜ (w .faces ≤ placesOf (now triangles)) × (a < 2 ^ 32) × (b < 2 ^ 32) × (c < 2 ^ 32) ⌝ }
+    ensures { λ r. ⌜ TriangleRuns a b c w (now (triangles .entry)) r (now (triangles .exit)) ⌝ }
+{
+    let faces = w.faces;
+    let room = w.room;
+    if !room {
+        return w;
+    }
+    if a == b {
+        return w;
+    }
+    if b == c {
+        return w;
+    }
+    if a == c {
+        return w;
+    }
+    if slice::whole_places(triangles.len()) <= faces {
+        return weld::full(w);
+    }
+    let at = 3 * faces;
+    triangles[at] = a as u32;
+    triangles[at + 1] = b as u32;
+    triangles[at + 2] = c as u32;
+    weld::with_face(w)
+}

@@ -1,0 +1,2 @@
+-- What the contracts of `weld_vertex` cite.
+pub mod Points

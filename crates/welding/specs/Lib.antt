@@ -1,2 +1,0 @@
--- What the contracts of `welding` cite.
-pub mod Steps

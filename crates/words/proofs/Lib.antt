@@ -1,2 +1,0 @@
--- Laws that the proofs of `words` use.
-pub mod Nan

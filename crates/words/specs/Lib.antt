@@ -1,2 +1,0 @@
--- What the contracts of `words` cite.
-pub mod Bytes

@@ -1,2 +1,0 @@
--- Laws that the proofs of `writes` share.
-pub mod Copies
