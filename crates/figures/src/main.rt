@@ -1,4 +1,4 @@
-// Prints the figures of document 01, "Both edges, with figures", each computed by the library.
+// Prints the figures of docs/SCOPE.md, "Figures", each computed by the library.
 mod draw;
 mod limits;
 mod solids;

@@ -18,7 +18,7 @@ use Rattle.ieee.specs.Same.{isZero, plusZero, mul-zero-r, div-zero-l, ro
 use Rattle.ieee.specs.Ends.{ofNat-value, ofNat-finite}
 
 -- ---- the definitions
--- document 01's `arc_segments` before the ceiling, for n = max(segments, 3) and s = min(|span|, TAU): (n × s) / TAU
+-- docs/SCOPE.md's `arc_segments` before the ceiling, for n = max(segments, 3) and s = min(|span|, TAU): (n × s) / TAU
 abbrev pub sweep : ℕ → Float → Float
 sweep n s = div binary64 (mul binary64 (ofInt binary64 (pos n)) s) tau
 

@@ -1,4 +1,4 @@
--- The whole number nearest to a float, halves away from zero, and that number modulo 4: document 01's q and q mod 4.
+-- The whole number nearest to a float, halves away from zero, and that number modulo 4: docs/SCOPE.md's q and q mod 4.
 use Prim.Native.Nat.{ℕ, _+_, _-_, _*_, _/_, _%_}
 use mathlib.Core.Bool.{Bool, true, false}
 use lib.IntN.{ℤ, pos, negsuc, negℤ}

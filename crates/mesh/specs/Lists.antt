@@ -1,4 +1,4 @@
--- Document 01, "The lists of demand 3": what holds of a mesh after any list of appends, flips and transforms, refused ones included.
+-- docs/SCOPE.md, "Lists of calls": what holds of a mesh after any list of appends, flips and transforms, refused ones included.
 -- The calls are those that the contracts of `append`, `flip` and `transform` cite. Assumes nothing; counts beyond the slices need no exception, since check 8 refuses then.
 use mathlib.Core.Path.{_≡_, refl, sym, subst}
 use mathlib.Core.Bool.{Bool, true, false, cond}

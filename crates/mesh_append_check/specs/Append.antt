@@ -1,4 +1,4 @@
--- The refusals of `append`, in document 01's order: 8, 1, 7. Definitions only.
+-- The refusals of `append`, in docs/SCOPE.md's order: 8, 1, 7. Definitions only.
 use mathlib.Core.Bool.{Bool, _||_, cond}
 use lib.ListN.{length}
 use lib.Dec.{ltb}

@@ -1,4 +1,4 @@
-// Which refusal `append` answers, in document 01's order: 8 on either mesh, 1 on either, 7. Nothing is written here.
+// Which refusal `append` answers, in docs/SCOPE.md's order: 8 on either mesh, 1 on either, 7. Nothing is written here.
 ghost use mathlib.Core.Path.{_≡_};
 ghost use Rattle.mesh_check.specs.State.{state};
 ghost use Rattle.mesh_append_check.specs.Append.{appendRefusal};

@@ -1,4 +1,4 @@
--- A mesh record with its two lent slices, the mesh that they hold, and the checks 8 and 1 of document 01, "Who can be told no". Definitions only.
+-- A mesh record with its two lent slices, the mesh that they hold, and the checks 8 and 1 of docs/SCOPE.md, "Refusals". Definitions only.
 use mathlib.Core.Bool.{Bool, true, false, not, _||_, cond}
 use mathlib.Core.List.{List, _++_}
 use Prim.Native.Nat.{ℕ, _*_, _≤_, _<_}

@@ -1,4 +1,4 @@
-// What every mesh call checks: refusal 8 of document 01.
+// What every mesh call checks: refusal 8 of docs/SCOPE.md.
 ghost use mathlib.Core.Path.{_≡_};
 ghost use Rattle.mesh_check.specs.State.{state, badMesh};
 use crate::TriMesh;

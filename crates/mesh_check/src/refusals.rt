@@ -1,4 +1,4 @@
-// What every mesh call answers first, in document 01's order: refusal 8, then 1.
+// What every mesh call answers first, in docs/SCOPE.md's order: refusal 8, then 1.
 ghost use mathlib.Core.Path.{_≡_};
 ghost use Rattle.mesh_check.specs.State.{state, checkOf, isAccepted};
 use crate::TriMesh;

@@ -1,4 +1,4 @@
--- The measures of a mesh in lent slices, with refusals 8 and 1 of document 01. A refused measure answers zeros. Definitions only.
+-- The measures of a mesh in lent slices, with refusals 8 and 1 of docs/SCOPE.md. A refused measure answers zeros. Definitions only.
 use mathlib.Core.Bool.{cond}
 use lib.Ieee.{Float, binary64, toBits}
 use Rattle.mesh_spec.specs.Mesh.{Mesh}

@@ -1,4 +1,4 @@
--- Document 01, "Words of demand 3": closed meshes. Definitions only.
+-- docs/SCOPE.md, "Words of demand 3": closed meshes. Definitions only.
 use mathlib.Core.Path.{_≡_}
 use mathlib.Core.Bool.{Bool, true, false, _&&_}
 use mathlib.Core.List.{List, [], _∷_}

@@ -1,4 +1,4 @@
--- `signed_volume`, `area` and `bounding_box` of `impl TriMesh` in src/tessellate.rs, and document 01's enclosed volume. Sums start at +0.0. Definitions only.
+-- `signed_volume`, `area` and `bounding_box` of `impl TriMesh` in src/tessellate.rs, and docs/SCOPE.md's enclosed volume. Sums start at +0.0. Definitions only.
 use mathlib.Core.List.{List, [], _∷_, map}
 use lib.IntN.{pos}
 use lib.ListN.{getD}

@@ -1,4 +1,4 @@
--- The refusals of `transform`, in document 01's order: 8, 4, 1, 2, 5. Definitions only.
+-- The refusals of `transform`, in docs/SCOPE.md's order: 8, 4, 1, 2, 5. Definitions only.
 use mathlib.Core.Bool.{Bool, not, _||_, cond}
 use mathlib.Core.List.{List, map}
 use Prim.Native.Nat.{ℕ}

@@ -1,4 +1,4 @@
-// Which refusal `transform` answers, in document 01's order: 8, 4, 1, 2, and where there are operations 5. Nothing is written here.
+// Which refusal `transform` answers, in docs/SCOPE.md's order: 8, 4, 1, 2, and where there are operations 5. Nothing is written here.
 ghost use mathlib.Core.Path.{_≡_};
 ghost use Prim.Native.Nat.{_*_};
 ghost use lib.ListN.{take};

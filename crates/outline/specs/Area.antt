@@ -1,4 +1,4 @@
--- `signed_area` of src/tessellate.rs, with the sum started at +0.0 (document 01). Assumes nothing.
+-- `signed_area` of src/tessellate.rs, with the sum started at +0.0 (docs/SCOPE.md). Assumes nothing.
 use Prim.Native.Nat.{ℕ, zero, suc, _+_, _/_, _%_}
 use mathlib.Core.List.{List}
 use lib.ListN.{length}

@@ -1,4 +1,4 @@
--- The corners of an outline, as one list of floats, two to a corner: document 01's lent corner lists. Assumes nothing.
+-- The corners of an outline, as one list of floats, two to a corner: docs/SCOPE.md's lent corner lists. Assumes nothing.
 use Prim.Native.Nat.{ℕ, _+_, _-_, _*_}
 use mathlib.Core.Bool.{Bool, _&&_}
 use mathlib.Core.List.{List, _++_}

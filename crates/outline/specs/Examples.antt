@@ -1,4 +1,4 @@
--- Document 01's figure on cleaning, by computation. Assumes nothing.
+-- docs/SCOPE.md's figure on cleaning, by computation. Assumes nothing.
 use mathlib.Core.Path.{_≡_, refl}
 use mathlib.Core.List.{List, [], _∷_}
 use mathlib.Core.Bool.{true, false}

@@ -1,4 +1,4 @@
--- Document 01's figures on clipping, by computation. Assumes nothing.
+-- docs/SCOPE.md's figures on clipping, by computation. Assumes nothing.
 use Prim.Native.Nat.{ℕ, zero, suc, _+_, _-_, _*_}
 use mathlib.Core.Path.{_≡_, refl}
 use mathlib.Core.Bool.{true, false}

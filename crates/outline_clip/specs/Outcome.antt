@@ -1,4 +1,4 @@
--- Clipping an outline by itself (document 01, "Who can be told no"): the checks 4, 1, 7 in that order, the counts and the triangle slice at the end.
+-- Clipping an outline by itself (docs/SCOPE.md, "Refusals"): the checks 4, 1, 7 in that order, the counts and the triangle slice at the end.
 -- v is the corner list as given, and m the length of the triangle slice. Assumes nothing.
 use Prim.Native.Nat.{ℕ, _-_, _/_, _%_}
 use mathlib.Core.Bool.{Bool, true, false, not, _||_}

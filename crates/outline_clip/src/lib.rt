@@ -1,4 +1,4 @@
-// An outline clipped by itself: the refusals, and what the lent triangles hold at the end (document 01, "Who can be told no").
+// An outline clipped by itself: the refusals, and what the lent triangles hold at the end (docs/SCOPE.md, "Refusals").
 ghost use mathlib.Core.Path.{_≡_};
 ghost use mathlib.Core.List.{_++_};
 ghost use Prim.Native.Nat.{ℕ, _≤_};

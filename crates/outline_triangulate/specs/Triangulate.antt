@@ -1,4 +1,4 @@
--- `triangulate_polygon` of src/tessellate.rs, with document 01's count of the corners that were removed singly.
+-- `triangulate_polygon` of src/tessellate.rs, with docs/SCOPE.md's count of the corners that were removed singly.
 -- v is the corner list, two floats to a corner, and e is eps. Triangles are a list of corner numbers, three to a triangle. Assumes nothing.
 use Prim.Native.Nat.{ℕ, zero, suc, _+_, _*_, _/_}
 use mathlib.Core.Bool.{Bool, true, false, _&&_}
@@ -11,7 +11,7 @@ use Rattle.outline_ears.specs.Ears.{cross, tolerance, before, after, firstEar, 
 use Rattle.outline_ears.specs.declared.Found.{Found}
 use Rattle.outline_ears.specs.declared.Found.the-variants.{At, Nothing}
 
--- the Rust's idx and out, and document 01's count of corners removed singly, clipped or dropped
+-- the Rust's idx and out, and docs/SCOPE.md's count of corners removed singly, clipped or dropped
 pub record State : Type 0 where
   pub left : List ℕ
   pub triangles : List ℕ

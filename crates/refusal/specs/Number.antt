@@ -1,4 +1,4 @@
--- The numbers of document 01, "Who can be told no". Assumes nothing.
+-- The numbers of docs/SCOPE.md, "Refusals". Assumes nothing.
 use Prim.Native.Nat.{ℕ}
 use Rattle.refusal.specs.declared.Refusal.{Refusal}
 use Rattle.refusal.specs.declared.Refusal.the-variants.{Accepted, NotFinite, AngleTooLarge, TooManySegments, BadList, PointNotFinite, ShortWork, NoRoom, BadMesh}

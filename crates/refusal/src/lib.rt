@@ -1,4 +1,4 @@
-// Who can be told no (document 01).
+// Who is told no (docs/SCOPE.md, "Refusals").
 ghost use mathlib.Core.Path.{_≡_};
 ghost use Rattle.refusal.specs.Number.{numberOf};
 
@@ -23,7 +23,7 @@ pub enum Refusal {
     BadMesh,
 }
 
-// Document 01's number, 0 where the call was accepted.
+// docs/SCOPE.md's number, 0 where the call was accepted.
 pub fn number(r: Refusal) -> u32
     ensures { λ n. ⌜ n ≡ numberOf r ⌝ }
 {

@@ -1,4 +1,4 @@
--- A drawing, and document 01's refusals 3, 4, 1 and 2 on it ("Who can be told no"), in the order in which tessellation checks them.
+-- A drawing, and docs/SCOPE.md's refusals 3, 4, 1 and 2 on it, in the order in which tessellation checks them.
 use Prim.Native.Nat.{ℕ, _/_, _%_}
 use mathlib.Core.Bool.{Bool, true, false, not, _&&_, _||_, cond}
 use mathlib.Core.List.{List, [], _∷_}

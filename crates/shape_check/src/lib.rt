@@ -1,4 +1,4 @@
-// Document 01's checks on what was drawn, before anything is computed: refusals 3, 4, 1 and 2, in this order.
+// docs/SCOPE.md's checks on what was drawn, before anything is computed: refusals 3, 4, 1 and 2, in this order.
 ghost use mathlib.Core.Path.{_≡_};
 ghost use Rattle.shape.specs.Drawing as Drawing;
 use refusal::Refusal;

@@ -1,4 +1,4 @@
-// Refusals 3 and 4 of document 01 on what was drawn: too many segments; a list that is not whole or too long, or too many operations.
+// Refusals 3 and 4 of docs/SCOPE.md on what was drawn: too many segments; a list that is not whole or too long, or too many operations.
 ghost use mathlib.Core.Path.{_≡_};
 ghost use mathlib.Core.Bool.{_||_};
 ghost use lib.Dec.{ltb};

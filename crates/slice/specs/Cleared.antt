@@ -1,4 +1,4 @@
--- A slice whose places from one on are zero (document 01: "unused mesh places are zero").
+-- A slice whose places from one on are zero (docs/SCOPE.md, "Refusals": unused mesh places are zero).
 use mathlib.Core.List.{List, _++_}
 use Prim.Native.Nat.{ℕ, _-_}
 use lib.ListN.{length, take, replicate}

@@ -1,4 +1,4 @@
--- Document 01's bounds on a drawing, as the code of the solids rests on them. Definitions only.
+-- docs/SCOPE.md's bounds on a drawing, as the code of the solids rests on them. Definitions only.
 use mathlib.Core.List.{List}
 use Prim.Native.Nat.{ℕ, _≤_}
 use lib.ListN.{length}
@@ -7,12 +7,12 @@ use Rattle.shape.specs.declared.Shape.{Shape}
 use Rattle.shape.specs.declared.Shape.the-variants.{Box, MultiBox, Sphere, SphericalShell, Cylinder, CylindricalShell, Polygon, LinPoly, RotPoly, Wire}
 use Rattle.shape.specs.declared.TessellationOptions.{TessellationOptions}
 
--- document 01's bounds on segments, rings and corners, which the local arrays rest on
+-- docs/SCOPE.md's bounds on segments, rings and corners, which the local arrays rest on
 pub record Bounded (o : TessellationOptions) : Type 0 where
   pub segments : o .segments ≤ 1024
   pub rings : o .«sphere_rings» ≤ 1024
 
--- document 01, refusal 4: at most 512 corners
+-- docs/SCOPE.md, refusal 4: at most 512 corners
 abbrev pub Listed : Shape → List Float → Type 0
 Listed (Polygon normal elevation) v = lib.ListN.length v ≤ 1024
 Listed (LinPoly normal elevation length) v = lib.ListN.length v ≤ 1024

@@ -1,4 +1,4 @@
--- `arcSegments` is from 1 to 1024 where the segments are at most 1024; document 01's figures for 32 segments.
+-- `arcSegments` is from 1 to 1024 where the segments are at most 1024; docs/SCOPE.md's figures for 32 segments.
 use mathlib.Core.Path.{_≡_, refl}
 use mathlib.Core.Bool.{Bool, true, false, cond, not}
 use Prim.Native.Nat.{ℕ, _≤_, _<_, max}

@@ -1,4 +1,4 @@
--- The soups of a few solids, computed: document 01's figures as far as they are soups, and that what the theorems ask for is met.
+-- The soups of a few solids, computed: docs/SCOPE.md's figures as far as they are soups, and that what the theorems ask for is met.
 use mathlib.Core.Path.{_≡_, refl}
 use mathlib.Core.List.{[], _∷_, map}
 use mathlib.Core.Bool.{true, false}

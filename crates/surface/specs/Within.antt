@@ -1,4 +1,4 @@
--- What the code asks of a surface to compute its points from (0, 0) to (i, j): document 01's bounds, and the corners in the lent slice. Definitions only.
+-- What the code asks of a surface to compute its points from (0, 0) to (i, j): docs/SCOPE.md's bounds, and the corners in the lent slice. Definitions only.
 use mathlib.Core.List.{List}
 use Prim.Native.Nat.{ℕ, _*_, _≤_, _<_}
 use lib.ListN.{length}

@@ -1,4 +1,4 @@
--- Demand 3, and document 01's figures marked (P).
+-- Demand 3, and docs/SCOPE.md's figures marked (P).
 pub mod Words
 pub mod AcceptedLaws
 pub mod PartsClosed

@@ -1,4 +1,4 @@
--- Document 01, "Both edges, with figures": every figure marked (P), in one table under one theorem, by computation on the definitions that the contracts cite.
+-- docs/SCOPE.md, "Figures": every figure marked (P), in one table under one theorem, by computation on the definitions that the contracts cite.
 -- Assumes nothing.
 use mathlib.Core.Path.{_≡_, refl, ap, _∙_, subst}
 use mathlib.Core.Bool.{false}

@@ -37,7 +37,7 @@ pub record Whole (s : State) : Type 0 where
   pub sound : Sound s
   pub there : AllThere (meshOf s)
 
--- a mesh under a matrix: document 01's refusal 5 over the transformed vertices, or accepted
+-- a mesh under a matrix: docs/SCOPE.md's refusal 5 over the transformed vertices, or accepted
 unfoldable pub movedAs : Mat4 → Mesh → ℕ → ℕ → ℕ → Outcome
 movedAs a m nv nt nw = cond (every vFinite (transform a m .vertices)) (acceptedAs (transform a m) nv nt nw) (refusedAs PointNotFinite nv nt nw)
 

@@ -1,4 +1,4 @@
--- Outcomes of `tessellate` by computation: document 01's figures on refusals, the order of the checks, and what the slices hold. Assumes nothing.
+-- Outcomes of `tessellate` by computation: docs/SCOPE.md's figures on refusals, the order of the checks, and what the slices hold. Assumes nothing.
 use mathlib.Core.Path.{_≡_, refl}
 use mathlib.Core.Bool.{Bool, false}
 use mathlib.Core.List.{List, [], _∷_}

@@ -6,7 +6,7 @@
 -- - `jobParts` is the Rust's `match` (specs/Solid.antt, `partsOf`), in the system of `shape_cs`; points are converted where the Rust's `to_cartesian` converts them.
 -- - `weldedMesh` is the `mesh` after the match: `from_soup` of the soup, or of each part with `append`; a rotated outline is flipped where its volume is below 0.
 -- - `finalMesh` is the `mesh` that is returned: `mesh.transform(..)` unless the transform is empty.
--- - `refusalOf` has document 01's checks in document 01's order, one line each: 6; 3, 4, 1, 2 (crate shape, `drawingRefusal`); 5 over the whole soup; 7; 5 over the
+-- - `refusalOf` has the checks in the order of docs/SCOPE.md, "Refusals", one line each: 6; 3, 4, 1, 2 (crate shape, `drawingRefusal`); 5 over the whole soup; 7; 5 over the
 --   transformed vertices. The first one that is due is the answer; none is `Accepted`.
 -- - `tessellateOf` is the outcome: the refusal, the two counts, and the whole final content of the vertex, the triangle and the work slice, of nv, nt and nw elements.
 use mathlib.Core.Bool.{Bool, not, _&&_, _||_, cond}

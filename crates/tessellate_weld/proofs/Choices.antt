@@ -1,4 +1,4 @@
--- The outcome of the call by the tests in document 01's order. Assumes nothing.
+-- The outcome of the call by the tests in docs/SCOPE.md's order. Assumes nothing.
 use mathlib.Core.Path.{_≡_, refl, sym, ap, _∙_}
 use mathlib.Core.Bool.{Bool, true, false, not, _&&_, _||_, cond}
 use mathlib.Core.List.{List}

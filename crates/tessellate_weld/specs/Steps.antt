@@ -22,7 +22,7 @@ use Rattle.tessellate_spec.specs.Outcome.{Job, tooFewPlaces, shortWork, jobRefu
 abbrev pub countsOf : Welder → TriMesh
 countsOf w = record { vertices = w .count; triangles = w .faces }
 
--- what the welding of a shape rests on: document 01's refusals 3 and 4 do not apply
+-- what the welding of a shape rests on: docs/SCOPE.md's refusals 3 and 4 do not apply
 pub record Drawable (shape : Shape) (list : List Float) (options : TessellationOptions) : Type 0 where
   pub segments : options .segments ≤ 1024
   pub rings : options .«sphere_rings» ≤ 1024

@@ -1,4 +1,4 @@
--- Degrees and radians: document 01, "A degree figure becomes radians at one step only", and `ang` of `TransformOp::matrix` in src/transform.rs.
+-- Degrees and radians: docs/SCOPE.md, "Degrees and radians", and `ang` of `TransformOp::matrix` in src/transform.rs.
 use mathlib.Core.Bool.{Bool, cond}
 use lib.IntN.{pos}
 use lib.Ieee.{Float, binary64, mul, le, ofBits, ofInt}
@@ -18,6 +18,6 @@ toRadians d = record { 0 = mul binary64 (d .0) perDegree }
 unfoldable pub angleRadians : Bool → Float → Radians
 angleRadians degrees a = cond degrees (toRadians (record { 0 = a })) (record { 0 = a })
 
--- document 01, refusal 2: the angle does not exceed 1000 in absolute value. A NaN is not within.
+-- docs/SCOPE.md, refusal 2: the angle does not exceed 1000 in absolute value. A NaN is not within.
 unfoldable pub within1000 : Radians → Bool
 within1000 r = le (absolute (r .0)) (ofInt binary64 (pos 1000))

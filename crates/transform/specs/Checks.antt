@@ -1,4 +1,4 @@
--- What document 01's refusals 4, 1 and 2 ask of operations.
+-- What docs/SCOPE.md's refusals 4, 1 and 2 ask of operations.
 use Prim.Native.Nat.{ℕ}
 use mathlib.Core.Bool.{Bool, true, _&&_}
 use mathlib.Core.List.{List}

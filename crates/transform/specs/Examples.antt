@@ -1,4 +1,4 @@
--- Figures of the definitions: the float PI / 180, and the edge of refusal 2 in document 01.
+-- Figures of the definitions: the float PI / 180, and the edge of refusal 2 in docs/SCOPE.md.
 use mathlib.Core.Path.{_≡_, refl}
 use mathlib.Core.Bool.{true, false}
 use lib.IntN.{pos}

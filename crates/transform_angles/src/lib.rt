@@ -1,4 +1,4 @@
-// Checks 4 and 2 of document 01 on the operations: their count, their angles.
+// Checks 4 and 2 of docs/SCOPE.md on the operations: their count, their angles.
 ghost use mathlib.Core.Path.{_≡_};
 ghost use lib.ListN.{take};
 ghost use Rattle.transform.specs.Angle as Angle;

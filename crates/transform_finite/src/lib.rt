@@ -1,4 +1,4 @@
-// Check 1 of document 01 on the operations: every number is finite.
+// Check 1 of docs/SCOPE.md on the operations: every number is finite.
 ghost use mathlib.Core.Path.{_≡_};
 ghost use lib.ListN.{take};
 ghost use Rattle.transform.specs.Checks as Checks;

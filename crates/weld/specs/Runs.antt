@@ -75,7 +75,7 @@ pub runs-part : (soup : List (Tri Vec3)) (h k : Held) (D : Mesh) → Runs soup h
 unfolding fromSoup
 runs-part soup h k D R e Q = R .rep e D noMesh Q
 
--- the mesh fits the slices: document 01, refusal 7 does not apply
+-- the mesh fits the slices: docs/SCOPE.md, refusal 7 does not apply
 abbrev pub Fits : Mesh → Held → Type 0
 Fits M h = (length (M .vertices) ≤ placesOf (h .vertices)) × (length (M .triangles) ≤ placesOf (h .triangles))
 
