@@ -14,7 +14,8 @@ use Rattle.mesh_spec.specs.Mesh.{append}
 use Rattle.refusal.specs.declared.Refusal.{Refusal}
 use Rattle.refusal.specs.declared.Refusal.the-variants.{Accepted, NotFinite, AngleTooLarge, BadList, PointNotFinite, NoRoom, BadMesh}
 use Rattle.slice.specs.Every.{wholePlaces, every}
-use Rattle.mesh_check.specs.State.{State, meshOf, badMesh, notFinite, isAccepted, Sound}
+use Rattle.refusal.specs.Accepted.{isAccepted}
+use Rattle.mesh_check.specs.State.{State, meshOf, badMesh, notFinite, Sound}
 use Rattle.mesh_move_affine.specs.Affine.{FiniteVertices}
 use Rattle.mesh_append_check.specs.Append.{noRoom, appendRefusal}
 use Rattle.mesh_transform_check.specs.Transform.{transformed, transformRefusal}

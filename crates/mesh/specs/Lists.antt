@@ -15,8 +15,10 @@ use Rattle.mesh_spec.specs.Closed.{Closed, NoneTwice, AllThere}
 use Rattle.mesh_spec.specs.ClosedLaws.{append-closed, flip-closed, transform-closed}
 use Rattle.mesh_spec.specs.ProperLaws.{append-none-twice, flip-none-twice, transform-none-twice, append-all-there, flip-all-there, transform-all-there}
 use Rattle.refusal.specs.declared.Refusal.{Refusal}
-use Rattle.refusal.specs.declared.Refusal.the-variants.{Accepted, NotFinite, AngleTooLarge, TooManySegments, BadList, PointNotFinite, ShortWork, NoRoom, BadMesh}
-use Rattle.mesh_check.specs.State.{State, meshOf, stored, checkOf, isAccepted}
+use Rattle.refusal.specs.declared.Refusal.the-variants.{Accepted}
+use Rattle.refusal.specs.Accepted.{isAccepted}
+use Rattle.refusal.specs.Laws.{accepted-is}
+use Rattle.mesh_check.specs.State.{State, meshOf, stored, checkOf}
 use Rattle.mesh.specs.Outcome.{Outcome, edited}
 use Rattle.mesh_check.specs.StateLaws.{mesh-stored}
 use Rattle.mesh_append_check.specs.Append.{appendRefusal}
@@ -74,15 +76,11 @@ module _ (P : Mesh → Type 0) (k : KeptByEdits P) (s : State) (start : P (meshO
   -- after an edit to t, where t has the property unless the call is refused
   by-edit : (r : Refusal) (t : State) → (r ≡ Accepted → P (meshOf t)) → P (meshOf (edited r s t .state))
   unfolding edited
-  by-edit Accepted t h = h refl
-  by-edit NotFinite t h = start
-  by-edit AngleTooLarge t h = start
-  by-edit TooManySegments t h = start
-  by-edit BadList t h = start
-  by-edit PointNotFinite t h = start
-  by-edit ShortWork t h = start
-  by-edit NoRoom t h = start
-  by-edit BadMesh t h = start
+  by-edit r t h = go (isAccepted r) refl
+    where
+      go : (u : Bool) → isAccepted r ≡ u → P (meshOf (cond u t s))
+      go true e = h (accepted-is r e)
+      go false e = start
 
   by-append : (o : State) → (appendOf s o .refusal ≡ Accepted → P (meshOf o)) → P (meshOf (appendOf s o .state))
   unfolding appendOf

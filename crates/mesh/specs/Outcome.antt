@@ -5,7 +5,8 @@ use mathlib.Core.List.{List}
 use Prim.Native.Nat.{ℕ}
 use lib.Ieee.{Float}
 use Rattle.refusal.specs.declared.Refusal.{Refusal}
-use Rattle.mesh_check.specs.State.{State, isAccepted}
+use Rattle.refusal.specs.Accepted.{isAccepted}
+use Rattle.mesh_check.specs.State.{State}
 use Rattle.mesh.specs.declared.Edited.{Edited}
 
 -- what a call answers, and the state that it leaves

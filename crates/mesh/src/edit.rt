@@ -31,7 +31,7 @@ pub fn append(
         other_vertices,
         other_triangles,
     );
-    if !mesh_check::accepted(refusal) {
+    if !refusal::is_accepted(refusal) {
         return Edited { refusal, mesh };
     }
     mesh_write::copy(vertices, 3 * n, other_vertices, 3 * more_n);
@@ -51,7 +51,7 @@ pub fn flip(mesh: TriMesh, vertices: &[f64], triangles: &mut [u32]) -> Edited
 {
     let k = mesh.triangles;
     let refusal = mesh_check::check(mesh, vertices, triangles);
-    if !mesh_check::accepted(refusal) {
+    if !refusal::is_accepted(refusal) {
         return Edited { refusal, mesh };
     }
     mesh_write::turn_all(triangles, k);
@@ -79,7 +79,7 @@ pub fn transform(
         op_count,
         degrees,
     );
-    if !mesh_check::accepted(refusal) {
+    if !refusal::is_accepted(refusal) {
         return Edited { refusal, mesh };
     }
     if op_count == 0 {

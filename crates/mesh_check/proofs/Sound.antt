@@ -11,7 +11,8 @@ use borrow.Author.Tests.{ltb-true, ltb-false, lt-ltb, le-ltb, not-false}
 use Rattle.refusal.specs.declared.Refusal.{Refusal}
 use Rattle.refusal.specs.declared.Refusal.the-variants.{Accepted, NotFinite, BadMesh}
 use Rattle.slice.specs.Every.{wholePlaces, every}
-use Rattle.mesh_check.specs.State.{State, badMesh, notFinite, checkOf, isAccepted, Sound}
+use Rattle.refusal.specs.Accepted.{isAccepted}
+use Rattle.mesh_check.specs.State.{State, badMesh, notFinite, checkOf, Sound}
 use Rattle.slice_bounded.specs.Bounded.{within}
 use Rattle.mesh_move_affine.specs.Affine.{FiniteVertices, Tested}
 use Rattle.slice.proofs.Next.{every-at}

@@ -11,7 +11,7 @@ use Rattle.mesh_balance_spec.specs.Buffer.{flat, tris}
 use Rattle.mesh_spec.specs.Mesh.{Mesh}
 use Rattle.mesh_spec.specs.Slices.{flatV, points}
 use Rattle.refusal.specs.declared.Refusal.{Refusal}
-use Rattle.refusal.specs.declared.Refusal.the-variants.{Accepted, NotFinite, AngleTooLarge, TooManySegments, BadList, PointNotFinite, ShortWork, NoRoom, BadMesh}
+use Rattle.refusal.specs.declared.Refusal.the-variants.{Accepted, NotFinite, BadMesh}
 use Rattle.mesh_check.specs.declared.TriMesh.{TriMesh}
 
 -- the record and the slices as a call finds or leaves them
@@ -53,18 +53,6 @@ pub record Sound (s : State) : Type 0 where
   pub vertices : 3 * s .mesh .vertices ≤ length (s .vertices)
   pub triangles : 3 * s .mesh .triangles ≤ length (s .triangles)
   pub below : (i : ℕ) → i < 3 * s .mesh .triangles → getD (s .triangles) i 0 < s .mesh .vertices
-
--- no refusal
-abbrev pub isAccepted : Refusal → Bool
-isAccepted Accepted = true
-isAccepted NotFinite = false
-isAccepted AngleTooLarge = false
-isAccepted TooManySegments = false
-isAccepted BadList = false
-isAccepted PointNotFinite = false
-isAccepted ShortWork = false
-isAccepted NoRoom = false
-isAccepted BadMesh = false
 
 -- what every mesh call checks first: 8, then 1
 unfoldable pub checkOf : State → Refusal

@@ -4,7 +4,6 @@ mod checks;
 mod refusals;
 
 pub use checks::bad_mesh;
-pub use refusals::accepted;
 pub use refusals::check;
 
 // The counts of a mesh.

@@ -1,25 +1,9 @@
 // What every mesh call answers first, in docs/SCOPE.md's order: refusal 8, then 1.
 ghost use mathlib.Core.Path.{_≡_};
-ghost use Rattle.mesh_check.specs.State.{state, checkOf, isAccepted};
+ghost use Rattle.mesh_check.specs.State.{state, checkOf};
 use crate::TriMesh;
 use crate::checks;
 use refusal::Refusal;
-
-pub fn accepted(r: Refusal) -> bool
-    ensures { λ b. ⌜ b ≡ isAccepted r ⌝ }
-{
-    match r {
-        Refusal::Accepted => true,
-        Refusal::NotFinite => false,
-        Refusal::AngleTooLarge => false,
-        Refusal::TooManySegments => false,
-        Refusal::BadList => false,
-        Refusal::PointNotFinite => false,
-        Refusal::ShortWork => false,
-        Refusal::NoRoom => false,
-        Refusal::BadMesh => false,
-    }
-}
 
 // What every mesh call checks first: 8, then 1.
 pub fn check(mesh: TriMesh, vertices: &[f64], triangles: &[u32]) -> Refusal

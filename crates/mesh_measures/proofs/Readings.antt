@@ -20,7 +20,8 @@ use Rattle.mesh_spec.specs.Measures.{triangleSoup, sumOf, including, plusZeroBo
 use Rattle.refusal.specs.declared.Refusal.{Refusal}
 use Rattle.mesh_measures.specs.declared.Measured.{Measured}
 use Rattle.mesh_measures.specs.declared.Boxed.{Boxed}
-use Rattle.mesh_check.specs.State.{State, meshOf, checkOf, isAccepted, Sound}
+use Rattle.refusal.specs.Accepted.{isAccepted}
+use Rattle.mesh_check.specs.State.{State, meshOf, checkOf, Sound}
 use Rattle.mesh_triples.specs.Triples.{tripleAt, cornersOf, AllWithin}
 use Rattle.mesh_measures.specs.Measures.{measureOf, boundingBoxOf}
 use Rattle.slice.proofs.Next.{getD-next}

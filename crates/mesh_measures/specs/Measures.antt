@@ -6,7 +6,8 @@ use Rattle.mesh_spec.specs.Measures.{signedVolume, area, enclosedVolume, boundi
 use Rattle.mesh_box.specs.ZeroBox.{zeroBox}
 use Rattle.mesh_measures.specs.declared.Measured.{Measured}
 use Rattle.mesh_measures.specs.declared.Boxed.{Boxed}
-use Rattle.mesh_check.specs.State.{State, meshOf, checkOf, isAccepted}
+use Rattle.refusal.specs.Accepted.{isAccepted}
+use Rattle.mesh_check.specs.State.{State, meshOf, checkOf}
 
 -- an area or volume is answered as its bits; a NaN's are 7FF8000000000000
 unfoldable pub measureOf : (Mesh → Float) → State → Measured

@@ -24,7 +24,7 @@ pub fn signed_volume(mesh: TriMesh, vertices: &[f64], triangles: &[u32]) -> Meas
 {
     let k = mesh.triangles;
     let refusal = mesh_check::check(mesh, vertices, triangles);
-    if !mesh_check::accepted(refusal) {
+    if !refusal::is_accepted(refusal) {
         return Measured { refusal, bits: 0 };
     }
     let x = mesh_sums::volume_sum(vertices, triangles, k) / 6.0;
@@ -40,7 +40,7 @@ pub fn enclosed_volume(mesh: TriMesh, vertices: &[f64], triangles: &[u32]) -> Me
 {
     let k = mesh.triangles;
     let refusal = mesh_check::check(mesh, vertices, triangles);
-    if !mesh_check::accepted(refusal) {
+    if !refusal::is_accepted(refusal) {
         return Measured { refusal, bits: 0 };
     }
     let x = ieee::abs(mesh_sums::volume_sum(vertices, triangles, k) / 6.0);
@@ -56,7 +56,7 @@ pub fn area(mesh: TriMesh, vertices: &[f64], triangles: &[u32]) -> Measured
 {
     let k = mesh.triangles;
     let refusal = mesh_check::check(mesh, vertices, triangles);
-    if !mesh_check::accepted(refusal) {
+    if !refusal::is_accepted(refusal) {
         return Measured { refusal, bits: 0 };
     }
     let x = mesh_sums::area_sum(vertices, triangles, k);
@@ -72,7 +72,7 @@ pub fn bounding_box(mesh: TriMesh, vertices: &[f64], triangles: &[u32]) -> Boxed
 {
     let n = mesh.vertices;
     let refusal = mesh_check::check(mesh, vertices, triangles);
-    if !mesh_check::accepted(refusal) {
+    if !refusal::is_accepted(refusal) {
         return Boxed {
             refusal,
             bounds: mesh_box::zero_box(),

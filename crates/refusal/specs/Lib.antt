@@ -1,1 +1,3 @@
 pub mod Number
+pub mod Accepted
+pub mod Laws

@@ -1,5 +1,6 @@
 // Who is told no (docs/SCOPE.md, "Refusals").
 ghost use mathlib.Core.Path.{_≡_};
+ghost use Rattle.refusal.specs.Accepted.{isAccepted};
 ghost use Rattle.refusal.specs.Number.{numberOf};
 
 // The answer of a call: accepted, or why it was refused.
@@ -38,4 +39,11 @@ pub fn number(r: Refusal) -> u32
         Refusal::NoRoom => 7,
         Refusal::BadMesh => 8,
     }
+}
+
+// Whether the call was accepted.
+pub fn is_accepted(r: Refusal) -> bool
+    ensures { λ b. ⌜ b ≡ isAccepted r ⌝ }
+{
+    number(r) == 0
 }

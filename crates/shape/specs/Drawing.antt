@@ -131,10 +131,6 @@ listWithin cyl k list = not (cyl && eqb (k % 3) 0) || pointsWithin list
 
 -- ---- the refusals in their order
 
-abbrev pub pick : Bool → Refusal → Refusal → Refusal
-pick true r s = r
-pick false r s = s
-
 -- refusal 1 is due
 unfoldable pub numbersBad : Shape → List Float → List TransformOp → Bool
 numbersBad shape list ops = not (shapeFinite shape && every finite (listOf (itemFloats shape) list) && opsFinite ops)
@@ -147,8 +143,8 @@ anglesBad cyl shape list degrees ops =
 -- 3, 4, 1, 2, in this order, on the shape, its list, its system, the options, and the first `count` operations
 unfoldable pub drawingRefusal : Shape → List Float → OwnSystem → CoordSystem → TessellationOptions → List TransformOp → ℕ → Bool → Refusal
 drawingRefusal shape list own default options ops count degrees =
-    pick (tooManySegments options) TooManySegments
-    (pick (badList (itemFloats shape) (length list) || ltb 16 count) BadList
-    (pick (numbersBad shape list (take count ops)) NotFinite
-    (pick (anglesBad (cylindrical (shapeCs shape own default)) shape list degrees (take count ops)) AngleTooLarge
+    cond (tooManySegments options) TooManySegments
+    (cond (badList (itemFloats shape) (length list) || ltb 16 count) BadList
+    (cond (numbersBad shape list (take count ops)) NotFinite
+    (cond (anglesBad (cylindrical (shapeCs shape own default)) shape list degrees (take count ops)) AngleTooLarge
     Accepted)))

@@ -1,7 +1,7 @@
 -- What is known of a drawing that refusals 3, 4, 1 and 2 let pass. Laws of the definitions in Drawing. Assumes nothing.
 use Prim.Native.Nat.{ℕ, _/_, _%_, _<_, _≤_}
 use mathlib.Core.Path.{_≡_, refl, _∙_}
-use mathlib.Core.Bool.{Bool, true, false, not, _&&_, _||_}
+use mathlib.Core.Bool.{Bool, true, false, not, _&&_, _||_, cond}
 use mathlib.Core.List.{List}
 use native.Mathlib.Omega.{arith}
 use lib.ListN.{length, getD, take}
@@ -19,7 +19,7 @@ use Rattle.shape.specs.declared.CoordSystem.{CoordSystem}
 use Rattle.shape.specs.declared.OwnSystem.{OwnSystem}
 use Rattle.shape.specs.declared.TessellationOptions.{TessellationOptions}
 use Rattle.shape.specs.Drawing.{shapeCs, cylindrical, tooManySegments, itemFloats, mostItems, badList, listOf, shapeFinite, shapeWithin, listWithin}
-use Rattle.shape.specs.Drawing.{pick, numbersBad, anglesBad, drawingRefusal}
+use Rattle.shape.specs.Drawing.{numbersBad, anglesBad, drawingRefusal}
 
 -- a drawing that passes; the angles of points count where `shapeCs` is cylindrical
 pub record AcceptedDrawing (shape : Shape) (list : List Float) (own : OwnSystem) (default : CoordSystem) (options : TessellationOptions) (ops : List TransformOp)
@@ -60,7 +60,7 @@ record Passed (a b c d : Bool) : Type 0 where
   one : c ≡ false
   two : d ≡ false
 
-passed : (a b c d : Bool) → pick a TooManySegments (pick b BadList (pick c NotFinite (pick d AngleTooLarge Accepted))) ≡ Accepted → Passed a b c d
+passed : (a b c d : Bool) → cond a TooManySegments (cond b BadList (cond c NotFinite (cond d AngleTooLarge Accepted))) ≡ Accepted → Passed a b c d
 passed true b c d e = let no : TooManySegments ≡ Accepted = e in record { three = cc; four = cc; one = cc; two = cc }
 passed false true c d e = let no : BadList ≡ Accepted = e in record { three = refl; four = cc; one = cc; two = cc }
 passed false false true d e = let no : NotFinite ≡ Accepted = e in record { three = refl; four = refl; one = cc; two = cc }

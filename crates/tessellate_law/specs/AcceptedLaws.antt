@@ -16,23 +16,23 @@ use Rattle.mesh_balance_spec.specs.Buffer.{tris, tris-flat}
 use Rattle.mesh_spec.specs.Mesh.{Mesh}
 use Rattle.mesh_spec.specs.Slices.{points}
 use Rattle.mesh_spec.specs.SliceLaws.{points-flatV, take-flat, take-flatV}
-use Rattle.shape.specs.Drawing.{pick}
 use Rattle.shape.specs.DrawingLaws.{AcceptedDrawing, accepted}
 use Rattle.mesh_check.specs.State.{state, meshOf}
 use Rattle.tessellate_spec.specs.Solid.{partsFinite}
 use Rattle.tessellate_spec.specs.Outcome.{Job, Outcome, jobParts, finalMesh, weldedMesh, refusedAs, acceptedAs, tessellateOf}
-use Rattle.tessellate_spec.specs.Outcome.{shortWork, jobRefusal, badSoup, tooFewPlaces, badVertex, isAccepted, orElse, refusalOf}
-use Rattle.tessellate_spec.specs.OutcomeLaws.{accepted-is}
+use Rattle.refusal.specs.Accepted.{isAccepted, orElse}
+use Rattle.tessellate_spec.specs.Outcome.{shortWork, jobRefusal, badSoup, tooFewPlaces, badVertex, refusalOf}
+use Rattle.refusal.specs.Laws.{accepted-is}
 use Rattle.tessellate_law.specs.Words.{Accepts, given}
 
 -- ---- tests that did not refuse
 
-passed : (b : Bool) (x r : Refusal) → (numberOf x ≡ 0 → ⊥) → pick b x r ≡ Accepted → (b ≡ false) × (r ≡ Accepted)
+passed : (b : Bool) (x r : Refusal) → (numberOf x ≡ 0 → ⊥) → cond b x r ≡ Accepted → (b ≡ false) × (r ≡ Accepted)
 passed true x r n e = absurd (n (ap numberOf e))
 passed false x r n e = (refl, e)
 
 both : (r s : Refusal) → orElse r s ≡ Accepted → (r ≡ Accepted) × (s ≡ Accepted)
-unfolding orElse isAccepted
+unfolding orElse
 both r s = go (isAccepted r) refl
   where
     go : (b : Bool) → isAccepted r ≡ b → cond b s r ≡ Accepted → (r ≡ Accepted) × (s ≡ Accepted)
@@ -59,16 +59,16 @@ refusal-none j nv nt nw = go (isAccepted r) refl
     go false q e = e
 
 outcome-is : (j : Job) (nv nt nw : ℕ) → refusalOf j nv nt nw ≡ Accepted → tessellateOf j nv nt nw ≡ acceptedAs (finalMesh j) nv nt nw
-unfolding tessellateOf isAccepted
+unfolding tessellateOf
 outcome-is j nv nt nw e = ap (λ (r : Refusal). cond (isAccepted r) (acceptedAs (finalMesh j) nv nt nw) (refusedAs r nv nt nw)) e
 
 pub accepted-says : (j : Job) (nv nt nw : ℕ) → Accepts j nv nt nw → AcceptedJob j nv nt nw
 unfolding refusalOf jobRefusal badSoup
 accepted-says j nv nt nw h =
     let e : refusalOf j nv nt nw ≡ Accepted = refusal-none j nv nt nw h in
-    let later = pick (tooFewPlaces (weldedMesh j) nv nt) NoRoom (pick (badVertex j) PointNotFinite Accepted) in
-    let p = passed (shortWork nv nw) ShortWork (orElse (jobRefusal j) (pick (badSoup j) PointNotFinite later)) (λ n. omega (arith, n)) e in
-    let q = both (jobRefusal j) (pick (badSoup j) PointNotFinite later) (p .1) in
+    let later = cond (tooFewPlaces (weldedMesh j) nv nt) NoRoom (cond (badVertex j) PointNotFinite Accepted) in
+    let p = passed (shortWork nv nw) ShortWork (orElse (jobRefusal j) (cond (badSoup j) PointNotFinite later)) (λ n. omega (arith, n)) e in
+    let q = both (jobRefusal j) (cond (badSoup j) PointNotFinite later) (p .1) in
     let s = passed (badSoup j) PointNotFinite later (λ n. omega (arith, n)) (q .1) in
     record {
       drawing = accepted (j .shape) (j .list) (j .own) (j .default) (j .options) (j .ops) (j .count) (j .degrees) (q .0);

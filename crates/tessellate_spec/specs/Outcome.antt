@@ -20,7 +20,7 @@ use Rattle.transform.specs.declared.TransformOp.{TransformOp}
 use Rattle.transform.specs.Ops.{folded}
 use Rattle.refusal.specs.declared.Refusal.{Refusal}
 use Rattle.refusal.specs.declared.Refusal.the-variants.{Accepted, PointNotFinite, ShortWork, NoRoom}
-use Rattle.refusal.specs.Number.{numberOf}
+use Rattle.refusal.specs.Accepted.{isAccepted, orElse}
 use Rattle.mesh_balance_spec.specs.Buffer.{flat}
 use Rattle.mesh_spec.specs.Mesh.{Mesh}
 use Rattle.mesh_spec.specs.Slices.{flatV}
@@ -30,7 +30,7 @@ use Rattle.shape.specs.declared.Shape.{Shape}
 use Rattle.shape.specs.declared.OwnSystem.{OwnSystem}
 use Rattle.shape.specs.declared.CoordSystem.{CoordSystem}
 use Rattle.shape.specs.declared.TessellationOptions.{TessellationOptions}
-use Rattle.shape.specs.Drawing.{cylindrical, shapeCs, pick, drawingRefusal}
+use Rattle.shape.specs.Drawing.{cylindrical, shapeCs, drawingRefusal}
 use Rattle.mesh_check.specs.declared.TriMesh.{TriMesh}
 use Rattle.slice.specs.Every.{wholePlaces, every}
 use Rattle.tessellate_spec.specs.Solid.{partsOf, partsFinite, solidMesh}
@@ -82,23 +82,14 @@ tooFewPlaces m nv nt = ltb (wholePlaces nv) (length (m .vertices)) || ltb (whole
 unfoldable pub badVertex : Job → Bool
 badVertex j = ltb 0 (j .count) && not (every vFinite (finalMesh j .vertices))
 
--- no refusal
-unfoldable pub isAccepted : Refusal → Bool
-isAccepted r = eqb (numberOf r) 0
-
--- the first of two refusals
-unfoldable pub orElse : Refusal → Refusal → Refusal
-unfolding isAccepted
-orElse r s = cond (isAccepted r) s r
-
 -- the first refusal that is due: 6, then 3, 4, 1, 2, then 5, 7, 5
 unfoldable pub refusalOf : Job → ℕ → ℕ → ℕ → Refusal
 refusalOf j nv nt nw =
-    pick (shortWork nv nw) ShortWork
+    cond (shortWork nv nw) ShortWork
     (orElse (jobRefusal j)
-    (pick (badSoup j) PointNotFinite
-    (pick (tooFewPlaces (weldedMesh j) nv nt) NoRoom
-    (pick (badVertex j) PointNotFinite
+    (cond (badSoup j) PointNotFinite
+    (cond (tooFewPlaces (weldedMesh j) nv nt) NoRoom
+    (cond (badVertex j) PointNotFinite
     Accepted))))
 
 -- ---- the outcome
@@ -133,7 +124,6 @@ acceptedAs m nv nt nw = record {
 
 -- `tessellate`, with slices of nv floats, nt and nw numbers
 unfoldable pub tessellateOf : Job → ℕ → ℕ → ℕ → Outcome
-unfolding isAccepted
 tessellateOf j nv nt nw =
     let r = refusalOf j nv nt nw in
     cond (isAccepted r) (acceptedAs (finalMesh j) nv nt nw) (refusedAs r nv nt nw)

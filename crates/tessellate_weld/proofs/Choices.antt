@@ -11,14 +11,14 @@ use Rattle.math.specs.Vec.{vFinite}
 use Rattle.transform.specs.declared.TransformOp.{TransformOp}
 use Rattle.transform.specs.Ops.{folded}
 use Rattle.refusal.specs.declared.Refusal.{Refusal}
-use Rattle.refusal.specs.declared.Refusal.the-variants.{Accepted, NotFinite, AngleTooLarge, TooManySegments, BadList, PointNotFinite, ShortWork, NoRoom, BadMesh}
+use Rattle.refusal.specs.declared.Refusal.the-variants.{Accepted, PointNotFinite, ShortWork, NoRoom}
 use Rattle.refusal.specs.Number.{numberOf}
 use Rattle.mesh_spec.specs.Mesh.{Mesh, fromParts}
 use Rattle.mesh_spec.specs.Edits.{transform}
-use Rattle.shape.specs.Drawing.{pick}
 use Rattle.slice.specs.Every.{wholePlaces, every}
 use Rattle.tessellate_spec.specs.Solid.{partsFinite}
-use Rattle.tessellate_spec.specs.Outcome.{Job, jobParts, weldedMesh, finalMesh, shortWork, jobRefusal, badSoup, tooFewPlaces, badVertex, isAccepted, orElse, refusalOf}
+use Rattle.refusal.specs.Accepted.{isAccepted, orElse}
+use Rattle.tessellate_spec.specs.Outcome.{Job, jobParts, weldedMesh, finalMesh, shortWork, jobRefusal, badSoup, tooFewPlaces, badVertex, refusalOf}
 use Rattle.tessellate_spec.specs.Outcome.{Outcome, refusedAs, acceptedAs, tessellateOf}
 use Rattle.tessellate_place.specs.Ends.{isRotPoly, turned, movedAs, placedAs}
 use Rattle.tessellate_weld.specs.Steps.{Drawn}
@@ -26,7 +26,7 @@ use Rattle.tessellate_place.proofs.Turning.{solid-turned, turned-vertices, turn
 
 -- the first refusal, by the tests
 abbrev first : Bool → Refusal → Bool → Bool → Bool → Refusal
-first a q b c d = pick a ShortWork (cond (eqb (numberOf q) 0) (pick b PointNotFinite (pick c NoRoom (pick d PointNotFinite Accepted))) q)
+first a q b c d = cond a ShortWork (cond (eqb (numberOf q) 0) (cond b PointNotFinite (cond c NoRoom (cond d PointNotFinite Accepted))) q)
 
 -- the outcome, by the first refusal
 abbrev ends : Refusal → Mesh → ℕ → ℕ → ℕ → Outcome
@@ -35,13 +35,13 @@ ends r m nv nt nw = cond (eqb (numberOf r) 0) (acceptedAs m nv nt nw) (refusedAs
 -- a refusal of the drawing
 drawn-first : (q : Refusal) (b c d : Bool) (m : Mesh) (nv nt nw : ℕ) → eqb (numberOf q) 0 ≡ false → ends (first false q b c d) m nv nt nw ≡ refusedAs q nv nt nw
 drawn-first q b c d m nv nt nw e =
-    ap {B = Outcome} (λ (u : Bool). ends (cond u (pick b PointNotFinite (pick c NoRoom (pick d PointNotFinite Accepted))) q) m nv nt nw) e
+    ap {B = Outcome} (λ (u : Bool). ends (cond u (cond b PointNotFinite (cond c NoRoom (cond d PointNotFinite Accepted))) q) m nv nt nw) e
     ∙ ap {B = Outcome} (λ (u : Bool). cond u (acceptedAs m nv nt nw) (refusedAs q nv nt nw)) e
 
 module _ (j : Job) (nv nt nw : ℕ) where
   by-tests : (a : Bool) (q : Refusal) (b c : Bool) → shortWork nv nw ≡ a → jobRefusal j ≡ q → badSoup j ≡ b → tooFewPlaces (weldedMesh j) nv nt ≡ c
       → tessellateOf j nv nt nw ≡ ends (first a q b c (badVertex j)) (finalMesh j) nv nt nw
-  unfolding tessellateOf refusalOf orElse isAccepted
+  unfolding tessellateOf refusalOf orElse
   by-tests a q b c ea eq eb ec = λ i. ends (first (ea i) (eq i) (eb i) (ec i) (badVertex j)) (finalMesh j) nv nt nw
 
   pub short : shortWork nv nw ≡ true → refusedAs ShortWork nv nt nw ≡ tessellateOf j nv nt nw
@@ -63,12 +63,12 @@ module _ (j : Job) (nv nt nw : ℕ) where
 
     -- the operations
     placing : (u : Bool) (t w : Mesh)
-        → ends (pick (u && not (every vFinite (cond u t w .vertices))) PointNotFinite Accepted) (cond u t w) nv nt nw
+        → ends (cond (u && not (every vFinite (cond u t w .vertices))) PointNotFinite Accepted) (cond u t w) nv nt nw
         ≡ cond u (cond (every vFinite (t .vertices)) (acceptedAs t nv nt nw) (refusedAs PointNotFinite nv nt nw)) (acceptedAs w nv nt nw)
     placing false t w = refl
     placing true t w = go (every vFinite (t .vertices))
       where
-        go : (v : Bool) → ends (pick (not v) PointNotFinite Accepted) t nv nt nw ≡ cond v (acceptedAs t nv nt nw) (refusedAs PointNotFinite nv nt nw)
+        go : (v : Bool) → ends (cond (not v) PointNotFinite Accepted) t nv nt nw ≡ cond v (acceptedAs t nv nt nw) (refusedAs PointNotFinite nv nt nw)
         go true = refl
         go false = refl
 
@@ -98,15 +98,3 @@ module _ (j : Job) where
   pub soup-test : (f b : Bool) → f ≡ partsFinite (jobParts j) → not f ≡ b → badSoup j ≡ b
   unfolding badSoup
   soup-test f b e h = sym (ap {B = Bool} not e) ∙ h
-
--- only `Accepted` has the number 0
-pub accepted-zero : (r : Refusal) → numberOf r ≡ 0 → r ≡ Accepted
-accepted-zero Accepted e = refl
-accepted-zero NotFinite e = let no : _≡_ {A = ℕ} 1 0 = e in absurd (omega arith)
-accepted-zero AngleTooLarge e = let no : _≡_ {A = ℕ} 2 0 = e in absurd (omega arith)
-accepted-zero TooManySegments e = let no : _≡_ {A = ℕ} 3 0 = e in absurd (omega arith)
-accepted-zero BadList e = let no : _≡_ {A = ℕ} 4 0 = e in absurd (omega arith)
-accepted-zero PointNotFinite e = let no : _≡_ {A = ℕ} 5 0 = e in absurd (omega arith)
-accepted-zero ShortWork e = let no : _≡_ {A = ℕ} 6 0 = e in absurd (omega arith)
-accepted-zero NoRoom e = let no : _≡_ {A = ℕ} 7 0 = e in absurd (omega arith)
-accepted-zero BadMesh e = let no : _≡_ {A = ℕ} 8 0 = e in absurd (omega arith)

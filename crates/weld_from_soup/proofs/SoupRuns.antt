@@ -12,9 +12,9 @@ use Rattle.refusal.specs.Number.{numberOf}
 use Rattle.mesh_balance_spec.specs.Buffer.{upto-more}
 use Rattle.mesh_spec.specs.Mesh.{fromParts}
 use Rattle.solid_spec.specs.Grid.{Soup}
-use Rattle.shape.specs.Drawing.{pick}
 use Rattle.tessellate_spec.specs.Solid.{partsFinite}
-use Rattle.tessellate_spec.specs.Outcome.{Outcome, shortWork, tooFewPlaces, isAccepted, acceptedAs, refusedAs}
+use Rattle.refusal.specs.Accepted.{isAccepted}
+use Rattle.tessellate_spec.specs.Outcome.{Outcome, shortWork, tooFewPlaces, acceptedAs, refusedAs}
 use Rattle.tessellate_spec.specs.declared.Tessellated.{Tessellated}
 use Rattle.tessellate_spec.specs.Gives.{Gives}
 use Rattle.mesh_check.specs.State.{state, stored, Sound}
@@ -41,12 +41,12 @@ first-all l i h k e R = runs-as (ap (firstOf l) e) R
 -- by its tests
 abbrev ends : Soup → ℕ → ℕ → ℕ → Bool → Bool → Bool → Outcome
 ends soup nv nt nw a b c =
-    let r = pick a ShortWork (pick b PointNotFinite (pick c NoRoom Accepted)) in
+    let r = cond a ShortWork (cond b PointNotFinite (cond c NoRoom Accepted)) in
     cond (eqb (numberOf r) 0) (acceptedAs (fromParts (soup ∷ [])) nv nt nw) (refusedAs r nv nt nw)
 
 by-tests : (soup : Soup) (nv nt nw : ℕ) (a b c : Bool) → shortWork nv nw ≡ a → not (partsFinite (soup ∷ [])) ≡ b → tooFewPlaces (fromParts (soup ∷ [])) nv nt ≡ c
     → ends soup nv nt nw a b c ≡ fromSoupOf soup nv nt nw
-unfolding fromSoupOf soupRefusal isAccepted
+unfolding fromSoupOf soupRefusal
 by-tests soup nv nt nw a b c ea eb ec = sym (λ i. ends soup nv nt nw (ea i) (eb i) (ec i))
 
 pub no-work : (soup : Soup) (nv nt nw : ℕ) → shortWork nv nw ≡ true → refusedAs ShortWork nv nt nw ≡ fromSoupOf soup nv nt nw

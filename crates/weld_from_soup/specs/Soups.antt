@@ -11,9 +11,9 @@ use Rattle.mesh_balance_spec.specs.Soup.{Tri}
 use Rattle.mesh_balance_spec.specs.Grid.{upto}
 use Rattle.mesh_spec.specs.Mesh.{fromParts}
 use Rattle.solid_spec.specs.Grid.{Soup}
-use Rattle.shape.specs.Drawing.{pick}
 use Rattle.tessellate_spec.specs.Solid.{partsFinite}
-use Rattle.tessellate_spec.specs.Outcome.{Outcome, shortWork, tooFewPlaces, isAccepted, acceptedAs, refusedAs}
+use Rattle.refusal.specs.Accepted.{isAccepted}
+use Rattle.tessellate_spec.specs.Outcome.{Outcome, shortWork, tooFewPlaces, acceptedAs, refusedAs}
 use Rattle.mesh_spec.specs.Slices.{vertexAt}
 
 -- triangle i of the slice
@@ -31,14 +31,13 @@ soupOf l = firstOf l (length l / 9)
 -- 6, then 5, then 7, for slices of nv floats, nt and nw numbers
 unfoldable pub soupRefusal : Soup → ℕ → ℕ → ℕ → Refusal
 soupRefusal soup nv nt nw =
-    pick (shortWork nv nw) ShortWork
-    (pick (not (partsFinite (soup ∷ []))) PointNotFinite
-    (pick (tooFewPlaces (fromParts (soup ∷ [])) nv nt) NoRoom
+    cond (shortWork nv nw) ShortWork
+    (cond (not (partsFinite (soup ∷ []))) PointNotFinite
+    (cond (tooFewPlaces (fromParts (soup ∷ [])) nv nt) NoRoom
     Accepted))
 
 -- from_soup, the soup as one part, with slices of nv floats, nt and nw numbers
 unfoldable pub fromSoupOf : Soup → ℕ → ℕ → ℕ → Outcome
-unfolding isAccepted
 fromSoupOf soup nv nt nw =
     let r = soupRefusal soup nv nt nw in
     cond (isAccepted r) (acceptedAs (fromParts (soup ∷ [])) nv nt nw) (refusedAs r nv nt nw)

@@ -3,7 +3,8 @@ use denote.Ref.{now}
 use mathlib.Core.Path.{_≡_, sym, ap, _∙_}
 use mathlib.Core.Bool.{true, false}
 use borrow.Author.Tests.{not-true, not-false}
-use Rattle.mesh_check.specs.State.{state, meshOf, isAccepted}
+use Rattle.refusal.specs.Accepted.{isAccepted}
+use Rattle.mesh_check.specs.State.{state, meshOf}
 use Rattle.mesh_check.proofs.Sound.{check-sound}
 use Rattle.mesh_measures.proofs.Readings.{all-within, sum-is, measure-refused, measure-done}
 use lib.Ieee.{binary64, ofBits}
@@ -15,15 +16,15 @@ use Rattle.mesh_measures.proofs.area.Tie as tie
 check-requires : tie.Need-check-requires
 check-requires c κs = search needs
 
-accepted-requires : tie.Need-accepted-requires
-accepted-requires c κs = search needs
+is-accepted-requires : tie.Need-is-accepted-requires
+is-accepted-requires c κs = search needs
 
 returns : tie.Need-returns
 returns c =
     let a = c .before .before .before .before .before .args in
     let s = state (a .mesh) (now (a .vertices)) (now (a .triangles)) in
     let r = c .before .before .check in
-    let h : isAccepted (r .result) ≡ false = sym (c .before .accepted .ensures) ∙ not-true _ (c .if1 .taken) in
+    let h : isAccepted (r .result) ≡ false = sym (c .before .is-accepted .ensures) ∙ not-true _ (c .if1 .taken) in
     measure-refused area s (r .result) (r .ensures) h
 
 area-sum-requires : tie.Need-area-sum-requires
@@ -31,7 +32,7 @@ area-sum-requires c κs =
     let a = c .before .before .before .before .before .args in
     let s = state (a .mesh) (now (a .vertices)) (now (a .triangles)) in
     let r = c .before .before .check in
-    let h : isAccepted (r .result) ≡ true = sym (c .before .accepted .ensures) ∙ not-false _ (c .if1 .left) in
+    let h : isAccepted (r .result) ≡ true = sym (c .before .is-accepted .ensures) ∙ not-false _ (c .if1 .left) in
     all-within s (check-sound s (r .result) (r .ensures) h)
 
 bits-of-requires : tie.Need-bits-of-requires
@@ -43,7 +44,7 @@ returns-2 c =
     let a = c .before .before .before .before .before .before .before .args in
     let s = state (a .mesh) (now (a .vertices)) (now (a .triangles)) in
     let r = c .before .before .before .before .check in
-    let h : isAccepted (r .result) ≡ true = sym (c .before .before .before .accepted .ensures) ∙ not-false _ (c .before .before .if1 .left) in
+    let h : isAccepted (r .result) ≡ true = sym (c .before .before .before .is-accepted .ensures) ∙ not-false _ (c .before .before .if1 .left) in
     let ok = check-sound s (r .result) (r .ensures) h in
     let x = c .before .area-sum in
     let b = c .bits-of in
@@ -54,7 +55,7 @@ area-spec =
     tie.close
     (tie.spec
     check-requires
-    accepted-requires
+    is-accepted-requires
     returns
     area-sum-requires
     bits-of-requires

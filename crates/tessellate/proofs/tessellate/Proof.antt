@@ -9,7 +9,8 @@ use Rattle.refusal.specs.Number.{numberOf}
 use Rattle.tessellate_spec.specs.Outcome.{jobRefusal, shortWork}
 use Rattle.tessellate_spec.specs.Gives.{job}
 use Rattle.mesh_made.proofs.Ending.{gives-as}
-use Rattle.tessellate_weld.proofs.Choices.{short, drawing, accepted-zero}
+use Rattle.refusal.specs.Laws.{accepted-zero}
+use Rattle.tessellate_weld.proofs.Choices.{short, drawing}
 use borrow.Author.Needs.{needs}
 use Rattle.tessellate.proofs.tessellate.Statement.{statement}
 use Rattle.tessellate.proofs.tessellate.Tie as tie

@@ -8,7 +8,8 @@ use lib.Seq.{paste}
 use borrow.Author.Tests.{not-true, not-false}
 use Rattle.mesh_spec.specs.Mesh.{append}
 use Rattle.mesh_check.specs.declared.TriMesh.{TriMesh}
-use Rattle.mesh_check.specs.State.{state, meshOf, stored, isAccepted}
+use Rattle.refusal.specs.Accepted.{isAccepted}
+use Rattle.mesh_check.specs.State.{state, meshOf, stored}
 use Rattle.mesh_append_check.specs.Append.{appendRefusal}
 use Rattle.mesh.specs.Edits.{appendOf}
 use Rattle.mesh_check.proofs.Stored.{stored-append}
@@ -22,8 +23,8 @@ use Rattle.mesh.proofs.edit.append.Tie as tie
 append-refusal-requires : tie.Need-append-refusal-requires
 append-refusal-requires c κs = search needs
 
-accepted-requires : tie.Need-accepted-requires
-accepted-requires c κs = search needs
+is-accepted-requires : tie.Need-is-accepted-requires
+is-accepted-requires c κs = search needs
 
 same-length : tie.Need-same-length
 same-length c = search needs
@@ -38,7 +39,7 @@ returns c =
     let s = state (a .mesh) (now (a .vertices)) (now (a .triangles)) in
     let o = state (a .other) (now (a .other-vertices)) (now (a .other-triangles)) in
     let r = c .before .before .append-refusal in
-    let h : isAccepted (r .result) ≡ false = sym (c .before .accepted .ensures) ∙ not-true _ (c .if1 .taken) in
+    let h : isAccepted (r .result) ≡ false = sym (c .before .is-accepted .ensures) ∙ not-true _ (c .if1 .taken) in
     gives-kept (appendRefusal s o) s (stored (append (meshOf s) (meshOf o)) s) (r .result) (r .ensures) h
 
 mul-copy : tie.Need-mul-copy
@@ -47,7 +48,7 @@ mul-copy c =
     let s = state (a .mesh) (now (a .vertices)) (now (a .triangles)) in
     let o = state (a .other) (now (a .other-vertices)) (now (a .other-triangles)) in
     let r = c .before .before .before .append-refusal in
-    let h : isAccepted (r .result) ≡ true = sym (c .before .before .accepted .ensures) ∙ not-false _ (c .before .if1 .left) in
+    let h : isAccepted (r .result) ≡ true = sym (c .before .before .is-accepted .ensures) ∙ not-false _ (c .before .if1 .left) in
     let w = appends s o (r .result) (r .ensures) h in
     omega (arith, w .limit, w .limitT)
 
@@ -57,7 +58,7 @@ mul-copy-2 c =
     let s = state (a .mesh) (now (a .vertices)) (now (a .triangles)) in
     let o = state (a .other) (now (a .other-vertices)) (now (a .other-triangles)) in
     let r = c .before .before .before .append-refusal in
-    let h : isAccepted (r .result) ≡ true = sym (c .before .before .accepted .ensures) ∙ not-false _ (c .before .if1 .left) in
+    let h : isAccepted (r .result) ≡ true = sym (c .before .before .is-accepted .ensures) ∙ not-false _ (c .before .if1 .left) in
     let w = appends s o (r .result) (r .ensures) h in
     omega (arith, w .limit, w .limitT)
 
@@ -67,7 +68,7 @@ copy-requires c κs =
     let s = state (a .mesh) (now (a .vertices)) (now (a .triangles)) in
     let o = state (a .other) (now (a .other-vertices)) (now (a .other-triangles)) in
     let r = c .before .before .before .append-refusal in
-    let h : isAccepted (r .result) ≡ true = sym (c .before .before .accepted .ensures) ∙ not-false _ (c .before .if1 .left) in
+    let h : isAccepted (r .result) ≡ true = sym (c .before .before .is-accepted .ensures) ∙ not-false _ (c .before .if1 .left) in
     let w = appends s o (r .result) (r .ensures) h in
     omega (arith, w .vertices, w .fine .vertices)
 
@@ -77,7 +78,7 @@ mul-copy-up c =
     let s = state (a .mesh) (now (a .vertices)) (now (a .triangles)) in
     let o = state (a .other) (now (a .other-vertices)) (now (a .other-triangles)) in
     let r = c .before .before .before .before .before .before .before .append-refusal in
-    let h : isAccepted (r .result) ≡ true = sym (c .before .before .before .before .before .before .accepted .ensures) ∙ not-false _ (c .before .before .before .before .before .if1 .left) in
+    let h : isAccepted (r .result) ≡ true = sym (c .before .before .before .before .before .before .is-accepted .ensures) ∙ not-false _ (c .before .before .before .before .before .if1 .left) in
     let w = appends s o (r .result) (r .ensures) h in
     omega (arith, w .limit, w .limitT)
 
@@ -87,7 +88,7 @@ mul-copy-up-2 c =
     let s = state (a .mesh) (now (a .vertices)) (now (a .triangles)) in
     let o = state (a .other) (now (a .other-vertices)) (now (a .other-triangles)) in
     let r = c .before .before .before .before .before .before .before .append-refusal in
-    let h : isAccepted (r .result) ≡ true = sym (c .before .before .before .before .before .before .accepted .ensures) ∙ not-false _ (c .before .before .before .before .before .if1 .left) in
+    let h : isAccepted (r .result) ≡ true = sym (c .before .before .before .before .before .before .is-accepted .ensures) ∙ not-false _ (c .before .before .before .before .before .if1 .left) in
     let w = appends s o (r .result) (r .ensures) h in
     omega (arith, w .limit, w .limitT)
 
@@ -97,7 +98,7 @@ cast-copy-up c =
     let s = state (a .mesh) (now (a .vertices)) (now (a .triangles)) in
     let o = state (a .other) (now (a .other-vertices)) (now (a .other-triangles)) in
     let r = c .before .before .before .before .before .before .before .append-refusal in
-    let h : isAccepted (r .result) ≡ true = sym (c .before .before .before .before .before .before .accepted .ensures) ∙ not-false _ (c .before .before .before .before .before .if1 .left) in
+    let h : isAccepted (r .result) ≡ true = sym (c .before .before .before .before .before .before .is-accepted .ensures) ∙ not-false _ (c .before .before .before .before .before .if1 .left) in
     let w = appends s o (r .result) (r .ensures) h in
     omega (arith, w .limit, w .limitT)
 
@@ -107,7 +108,7 @@ copy-up-requires c κs =
     let s = state (a .mesh) (now (a .vertices)) (now (a .triangles)) in
     let o = state (a .other) (now (a .other-vertices)) (now (a .other-triangles)) in
     let r = c .before .before .before .before .before .before .before .append-refusal in
-    let h : isAccepted (r .result) ≡ true = sym (c .before .before .before .before .before .before .accepted .ensures) ∙ not-false _ (c .before .before .before .before .before .if1 .left) in
+    let h : isAccepted (r .result) ≡ true = sym (c .before .before .before .before .before .before .is-accepted .ensures) ∙ not-false _ (c .before .before .before .before .before .if1 .left) in
     let w = appends s o (r .result) (r .ensures) h in
     (omega (arith, w .triangles), omega (arith, w .fine .triangles), w .fits)
 
@@ -117,7 +118,7 @@ add-t22 c =
     let s = state (a .mesh) (now (a .vertices)) (now (a .triangles)) in
     let o = state (a .other) (now (a .other-vertices)) (now (a .other-triangles)) in
     let r = c .before .before .before .before .before .before .before .before .before .before .append-refusal in
-    let h : isAccepted (r .result) ≡ true = sym (c .before .before .before .before .before .before .before .before .before .accepted .ensures)
+    let h : isAccepted (r .result) ≡ true = sym (c .before .before .before .before .before .before .before .before .before .is-accepted .ensures)
     ∙ not-false _ (c .before .before .before .before .before .before .before .before .if1 .left) in
     let w = appends s o (r .result) (r .ensures) h in
     omega (arith, w .limit, w .limitT)
@@ -128,7 +129,7 @@ add-t21 c =
     let s = state (a .mesh) (now (a .vertices)) (now (a .triangles)) in
     let o = state (a .other) (now (a .other-vertices)) (now (a .other-triangles)) in
     let r = c .before .before .before .before .before .before .before .before .before .before .append-refusal in
-    let h : isAccepted (r .result) ≡ true = sym (c .before .before .before .before .before .before .before .before .before .accepted .ensures)
+    let h : isAccepted (r .result) ≡ true = sym (c .before .before .before .before .before .before .before .before .before .is-accepted .ensures)
     ∙ not-false _ (c .before .before .before .before .before .before .before .before .if1 .left) in
     let w = appends s o (r .result) (r .ensures) h in
     omega (arith, w .limit, w .limitT)
@@ -146,7 +147,7 @@ returns-2 c =
     let s = state (a .mesh) (now (a .vertices)) (now (a .triangles)) in
     let o = state (a .other) (now (a .other-vertices)) (now (a .other-triangles)) in
     let r = c .before .before .before .before .before .before .before .before .before .before .append-refusal in
-    let h : isAccepted (r .result) ≡ true = sym (c .before .before .before .before .before .before .before .before .before .accepted .ensures)
+    let h : isAccepted (r .result) ≡ true = sym (c .before .before .before .before .before .before .before .before .before .is-accepted .ensures)
     ∙ not-false _ (c .before .before .before .before .before .before .before .before .if1 .left) in
     let w = appends s o (r .result) (r .ensures) h in
     let vs = paste (s .vertices) (3 * s .mesh .vertices) (o .vertices) (3 * o .mesh .vertices) in
@@ -162,7 +163,7 @@ append-spec =
     tie.close
     (tie.spec
     append-refusal-requires
-    accepted-requires
+    is-accepted-requires
     same-length
     same-length-2
     returns

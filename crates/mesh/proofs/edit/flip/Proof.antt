@@ -5,7 +5,8 @@ use mathlib.Core.Bool.{true, false}
 use borrow.Author.Tests.{not-true, not-false}
 use Rattle.mesh_balance_spec.specs.Soup.{flip as flipTri}
 use Rattle.mesh_spec.specs.Mesh.{flip}
-use Rattle.mesh_check.specs.State.{state, meshOf, stored, checkOf, isAccepted}
+use Rattle.refusal.specs.Accepted.{isAccepted}
+use Rattle.mesh_check.specs.State.{state, meshOf, stored, checkOf}
 use Rattle.mesh.specs.Edits.{flipOf}
 use Rattle.mesh_triples.specs.Triples.{eachTo}
 use Rattle.mesh_check.proofs.Stored.{stored-flip}
@@ -18,8 +19,8 @@ use Rattle.mesh.proofs.edit.flip.Tie as tie
 check-requires : tie.Need-check-requires
 check-requires c κs = search needs
 
-accepted-requires : tie.Need-accepted-requires
-accepted-requires c κs = search needs
+is-accepted-requires : tie.Need-is-accepted-requires
+is-accepted-requires c κs = search needs
 
 same-length : tie.Need-same-length
 same-length c = search needs
@@ -30,7 +31,7 @@ returns c =
     let a = c .before .before .before .before .before .before .args in
     let s = state (a .mesh) (now (a .vertices)) (now (a .triangles)) in
     let r = c .before .before .check in
-    let h : isAccepted (r .result) ≡ false = sym (c .before .accepted .ensures) ∙ not-true _ (c .if1 .taken) in
+    let h : isAccepted (r .result) ≡ false = sym (c .before .is-accepted .ensures) ∙ not-true _ (c .if1 .taken) in
     gives-kept (checkOf s) s (stored (flip (meshOf s)) s) (r .result) (r .ensures) h
 
 turn-all-requires : tie.Need-turn-all-requires
@@ -38,7 +39,7 @@ turn-all-requires c κs =
     let a = c .before .before .before .before .before .before .before .args in
     let s = state (a .mesh) (now (a .vertices)) (now (a .triangles)) in
     let r = c .before .before .before .check in
-    let h : isAccepted (r .result) ≡ true = sym (c .before .before .accepted .ensures) ∙ not-false _ (c .before .if1 .left) in
+    let h : isAccepted (r .result) ≡ true = sym (c .before .before .is-accepted .ensures) ∙ not-false _ (c .before .if1 .left) in
     check-sound s (r .result) (r .ensures) h .triangles
 
 same-length-2 : tie.Need-same-length-2
@@ -50,7 +51,7 @@ returns-2 c =
     let a = c .before .before .before .before .before .before .before .before .before .before .args in
     let s = state (a .mesh) (now (a .vertices)) (now (a .triangles)) in
     let r = c .before .before .before .before .before .before .check in
-    let h : isAccepted (r .result) ≡ true = sym (c .before .before .before .before .before .accepted .ensures) ∙ not-false _ (c .before .before .before .before .if1 .left) in
+    let h : isAccepted (r .result) ≡ true = sym (c .before .before .before .before .before .is-accepted .ensures) ∙ not-false _ (c .before .before .before .before .if1 .left) in
     let ok = check-sound s (r .result) (r .ensures) h in
     let u = state (s .mesh) (s .vertices) (eachTo flipTri (s .mesh .triangles) (s .triangles)) in
     let t = c .before .before .turn-all in
@@ -61,7 +62,7 @@ flip-spec =
     tie.close
     (tie.spec
     check-requires
-    accepted-requires
+    is-accepted-requires
     same-length
     returns
     turn-all-requires

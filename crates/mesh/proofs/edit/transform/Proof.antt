@@ -12,7 +12,8 @@ use Rattle.math_matrix.specs.Mat.{determinant}
 use Rattle.transform.specs.Ops.{folded}
 use Rattle.mesh_balance_spec.specs.Soup.{flip as flipTri}
 use Rattle.mesh_spec.specs.Mesh.{Mesh}
-use Rattle.mesh_check.specs.State.{State, state, meshOf, stored, isAccepted}
+use Rattle.refusal.specs.Accepted.{isAccepted}
+use Rattle.mesh_check.specs.State.{State, state, meshOf, stored}
 use Rattle.mesh_transform_check.specs.Transform.{transformed, transformRefusal}
 use Rattle.mesh.specs.Edits.{transformOf}
 use Rattle.mesh_triples.specs.Triples.{eachTo, movedTriple}
@@ -27,8 +28,8 @@ use Rattle.mesh.proofs.edit.transform.Tie as tie
 transform-refusal-requires : tie.Need-transform-refusal-requires
 transform-refusal-requires c κs = search needs
 
-accepted-requires : tie.Need-accepted-requires
-accepted-requires c κs = search needs
+is-accepted-requires : tie.Need-is-accepted-requires
+is-accepted-requires c κs = search needs
 
 same-length : tie.Need-same-length
 same-length c = search needs
@@ -43,7 +44,7 @@ returns c =
     let s = state (a .mesh) (now (a .vertices)) (now (a .triangles)) in
     let m = a .op-count in
     let r = c .before .before .transform-refusal in
-    let h : isAccepted (r .result) ≡ false = sym (c .before .accepted .ensures) ∙ not-true _ (c .if1 .taken) in
+    let h : isAccepted (r .result) ≡ false = sym (c .before .is-accepted .ensures) ∙ not-true _ (c .if1 .taken) in
     let q = transformRefusal (a .ops) m (a .degrees) s in
     let t = cond (eqb m 0) s (stored (transformed (a .ops) m (a .degrees) (meshOf s)) s) in
     gives-kept q s t (r .result) (r .ensures) h
@@ -61,7 +62,7 @@ returns-2 c =
     let s = state (a .mesh) (now (a .vertices)) (now (a .triangles)) in
     let m = a .op-count in
     let r = c .before .before .before .transform-refusal in
-    let h : isAccepted (r .result) ≡ true = sym (c .before .before .accepted .ensures) ∙ not-false _ (c .before .if1 .left) in
+    let h : isAccepted (r .result) ≡ true = sym (c .before .before .is-accepted .ensures) ∙ not-false _ (c .before .if1 .left) in
     let q = transformRefusal (a .ops) m (a .degrees) s in
     let t = cond (eqb m 0) s (stored (transformed (a .ops) m (a .degrees) (meshOf s)) s) in
     let z = eq-eqb m 0 (c .if2 .taken) in
@@ -75,7 +76,7 @@ move-finite-requires c κs =
     let a = c .before .before .before .before .before .before .before .before .before .before .args in
     let s = state (a .mesh) (now (a .vertices)) (now (a .triangles)) in
     let r = c .before .before .before .before .before .transform-refusal in
-    let h : isAccepted (r .result) ≡ true = sym (c .before .before .before .before .accepted .ensures) ∙ not-false _ (c .before .before .before .if1 .left) in
+    let h : isAccepted (r .result) ≡ true = sym (c .before .before .before .before .is-accepted .ensures) ∙ not-false _ (c .before .before .before .if1 .left) in
     transform-finite s (a .ops) (a .op-count) (a .degrees) (r .result) (r .ensures) h
 
 determinant-requires : tie.Need-determinant-requires
@@ -86,7 +87,7 @@ turn-all-requires c κs =
     let a = c .before .before .before .before .before .before .before .before .before .before .before .before .before .before .before .before .args in
     let s = state (a .mesh) (now (a .vertices)) (now (a .triangles)) in
     let r = c .before .before .before .before .before .before .before .before .before .before .before .transform-refusal in
-    let h : isAccepted (r .result) ≡ true = sym (c .before .before .before .before .before .before .before .before .before .before .accepted .ensures)
+    let h : isAccepted (r .result) ≡ true = sym (c .before .before .before .before .before .before .before .before .before .before .is-accepted .ensures)
     ∙ not-false _ (c .before .before .before .before .before .before .before .before .before .if1 .left) in
     transform-sound s (a .ops) (a .op-count) (a .degrees) (r .result) (r .ensures) h .triangles
 
@@ -103,7 +104,7 @@ returns-3 c =
     let s = state (a .mesh) (now (a .vertices)) (now (a .triangles)) in
     let m = a .op-count in
     let r = c .before .before .before .before .before .before .before .before .before .before .before .before .before .before .transform-refusal in
-    let h : isAccepted (r .result) ≡ true = sym (c .before .before .before .before .before .before .before .before .before .before .before .before .before .accepted .ensures)
+    let h : isAccepted (r .result) ≡ true = sym (c .before .before .before .before .before .before .before .before .before .before .before .before .before .is-accepted .ensures)
     ∙ not-false _ (c .before .before .before .before .before .before .before .before .before .before .before .before .if1 .left) in
     let q = transformRefusal (a .ops) m (a .degrees) s in
     let t = cond (eqb m 0) s (stored (transformed (a .ops) m (a .degrees) (meshOf s)) s) in
@@ -132,7 +133,7 @@ returns-4 c =
     let s = state (a .mesh) (now (a .vertices)) (now (a .triangles)) in
     let m = a .op-count in
     let r = c .before .before .before .before .before .before .before .before .before .before .transform-refusal in
-    let h : isAccepted (r .result) ≡ true = sym (c .before .before .before .before .before .before .before .before .before .accepted .ensures)
+    let h : isAccepted (r .result) ≡ true = sym (c .before .before .before .before .before .before .before .before .before .is-accepted .ensures)
     ∙ not-false _ (c .before .before .before .before .before .before .before .before .if1 .left) in
     let q = transformRefusal (a .ops) m (a .degrees) s in
     let t = cond (eqb m 0) s (stored (transformed (a .ops) m (a .degrees) (meshOf s)) s) in
@@ -153,7 +154,7 @@ transform-spec =
     tie.close
     (tie.spec
     transform-refusal-requires
-    accepted-requires
+    is-accepted-requires
     same-length
     same-length-2
     returns
