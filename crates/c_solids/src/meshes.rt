@@ -11,7 +11,7 @@ use transform::TransformOp;
 
 // The bits of the area.
 #[no_mangle]
-pub extern "C" fn bench_area(
+pub extern "C" fn sizturga_bench_area(
     vertex_count: usize,
     triangle_count: usize,
     vertices: &[f64],
@@ -32,7 +32,7 @@ pub extern "C" fn bench_area(
 
 // The bits of the signed volume.
 #[no_mangle]
-pub extern "C" fn bench_signed_volume(
+pub extern "C" fn sizturga_bench_signed_volume(
     vertex_count: usize,
     triangle_count: usize,
     vertices: &[f64],
@@ -52,7 +52,7 @@ pub extern "C" fn bench_signed_volume(
 }
 
 #[no_mangle]
-pub extern "C" fn bench_append(
+pub extern "C" fn sizturga_bench_append(
     vertex_count: &mut usize,
     triangle_count: &mut usize,
     vertices: &mut [f64],
@@ -89,7 +89,7 @@ pub extern "C" fn bench_append(
 }
 
 #[no_mangle]
-pub extern "C" fn bench_flip(
+pub extern "C" fn sizturga_bench_flip(
     vertex_count: &mut usize,
     triangle_count: &mut usize,
     vertices: &[f64],
@@ -116,7 +116,7 @@ pub extern "C" fn bench_flip(
 
 // A rotation by an angle in radians about an axis through the origin, then a translation.
 #[no_mangle]
-pub extern "C" fn bench_transform(
+pub extern "C" fn sizturga_bench_transform(
     vertex_count: &mut usize,
     triangle_count: &mut usize,
     vertices: &mut [f64],

@@ -51,7 +51,7 @@ fn solid(
 }
 
 #[no_mangle]
-pub extern "C" fn bench_box(
+pub extern "C" fn sizturga_bench_box(
     x: f64,
     y: f64,
     z: f64,
@@ -92,7 +92,7 @@ pub extern "C" fn bench_box(
 }
 
 #[no_mangle]
-pub extern "C" fn bench_sphere(
+pub extern "C" fn sizturga_bench_sphere(
     x: f64,
     y: f64,
     z: f64,
@@ -127,7 +127,7 @@ pub extern "C" fn bench_sphere(
 }
 
 #[no_mangle]
-pub extern "C" fn bench_cylinder(
+pub extern "C" fn sizturga_bench_cylinder(
     x: f64,
     y: f64,
     z: f64,
@@ -171,7 +171,7 @@ pub extern "C" fn bench_cylinder(
 
 // An outline, two floats a corner, extruded.
 #[no_mangle]
-pub extern "C" fn bench_extruded(
+pub extern "C" fn sizturga_bench_extruded(
     norm_dir: u8,
     elevation: f64,
     depth: f64,
@@ -207,7 +207,7 @@ pub extern "C" fn bench_extruded(
 
 // An outline, two floats a corner, rotated.
 #[no_mangle]
-pub extern "C" fn bench_rotated(
+pub extern "C" fn sizturga_bench_rotated(
     norm_dir: u8,
     elevation: f64,
     rot_axis_dir: u8,
@@ -247,7 +247,7 @@ pub extern "C" fn bench_rotated(
 
 // Three floats a point.
 #[no_mangle]
-pub extern "C" fn bench_wire(
+pub extern "C" fn sizturga_bench_wire(
     radius: f64,
     list: &[f64],
     segments: usize,

@@ -5,7 +5,7 @@ ghost use Rattle.c_solids.specs.Answers.{Tells};
 
 // The mesh of a soup in the lent slices, and its counts.
 #[no_mangle]
-pub extern "C" fn bench_from_soup(
+pub extern "C" fn sizturga_bench_from_soup(
     soup: &[f64],
     vertices: &mut [f64],
     triangles: &mut [u32],

@@ -1,13 +1,13 @@
 // Prints the figures of docs/SCOPE.md, "Figures", each computed by the library.
-mod draw;
-mod limits;
-mod solids;
+mod drawings;
+mod drawn;
+mod extremes;
 
 fn main() {
-    solids::boxes();
+    drawings::boxes();
     figures_lines::outlines::all();
-    figures_lines::numbers::all();
-    solids::spheres();
-    solids::cylinders();
-    limits::all();
+    figures_lines::arcs_and_roots::all();
+    drawings::spheres();
+    drawings::cylinders();
+    extremes::all();
 }

@@ -39,7 +39,7 @@ pub fn shell(width: f64) {
 }
 
 // A turned box, with its angle by name.
-pub fn turned(name: &[u8]) {
+pub fn turned_box(name: &[u8]) {
     figures_text::bytes(b"box (0,0,0) to (1,2,3) turned about z by ");
     figures_text::bytes(name);
     figures_text::bytes(b": ");

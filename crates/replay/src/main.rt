@@ -1,6 +1,6 @@
 // Reads a case file from standard input, runs the library and writes the result file to standard output (tests/README.md).
 // The arrays have the largest sizes that a case may lend. A case that asks for more, or is cut off, ends the run.
-mod solid;
+mod tessellated;
 mod turns;
 
 fn main() {

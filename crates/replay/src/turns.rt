@@ -1,12 +1,12 @@
 // The run: case by case.
-use crate::solid::tessellate;
-use replay_calls::State;
+use crate::tessellated::tessellate;
+use replay_calls::Session;
 use replay_head::Case;
 use transform::TransformOp;
 
 // A call by its number.
 fn call(
-    s: State,
+    s: Session,
     c: Case,
     ops: [TransformOp; 16],
     va: &mut [f64; 196608],
@@ -15,7 +15,7 @@ fn call(
     tb: &mut [u32; 393216],
     work: &mut [u32; 131072],
     list: &[f64; 4096],
-) -> State {
+) -> Session {
     let h = c.head;
     let what = h.what;
     if what == 1 {
@@ -26,14 +26,14 @@ fn call(
 
 // The next case. The run ends where none is left.
 fn step(
-    s: State,
+    s: Session,
     va: &mut [f64; 196608],
     ta: &mut [u32; 393216],
     vb: &mut [f64; 196608],
     tb: &mut [u32; 393216],
     work: &mut [u32; 131072],
     list: &mut [f64; 4096],
-) -> State {
+) -> Session {
     let mut buf = [0u8; 65536];
     let next = replay_io::next(&mut buf);
     let ops = replay_head::operations(next, &buf);

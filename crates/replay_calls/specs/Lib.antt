@@ -1,3 +1,3 @@
 -- What the contracts of `replay_calls` cite.
 pub mod Agreed
-pub mod States
+pub mod Sessions

@@ -5,7 +5,7 @@ ghost use Rattle.mesh_check.specs.State.{state};
 ghost use Rattle.mesh.specs.Edits.{appendOf, flipOf, transformOf};
 ghost use Rattle.outline_clip.specs.Outcome.{clipOutline};
 ghost use Rattle.replay_calls.specs.Agreed.{agreedOf};
-ghost use Rattle.replay_calls.specs.States.{claimed};
+ghost use Rattle.replay_calls.specs.Sessions.{claimed};
 use crate::written::edited;
 use mesh::Edited;
 use mesh::TriMesh;

@@ -1,13 +1,19 @@
 // Exchanging A and B.
 ghost use mathlib.Core.Path.{_≡_};
 ghost use Rattle.replay_slices.specs.Swapped.{swapped};
-use crate::state::State;
+use crate::session::Session;
 use replay_io::output;
 use replay_slices::swap_floats;
 use replay_slices::swap_words;
 
 // 7: exchanges A and B, with the content of their arrays.
-pub fn exchange(s: State, va: &mut [f64], ta: &mut [u32], vb: &mut [f64], tb: &mut [u32]) -> State
+pub fn exchange(
+    s: Session,
+    va: &mut [f64],
+    ta: &mut [u32],
+    vb: &mut [f64],
+    tb: &mut [u32],
+) -> Session
     ensures { λ r. ⌜ (r .a ≡ s .b) × (r .b ≡ s .a) ⌝ }
     ensures { λ _. ⌜ (now (va .exit) ≡ swapped (now (vb .entry)) (now (va .entry))) × (now (vb .exit) ≡ swapped (now (va .entry)) (now (vb .entry))) ⌝ }
     ensures { λ _. ⌜ (now (ta .exit) ≡ swapped (now (tb .entry)) (now (ta .entry))) × (now (tb .exit) ≡ swapped (now (ta .entry)) (now (tb .entry))) ⌝ }
@@ -16,7 +22,7 @@ pub fn exchange(s: State, va: &mut [f64], ta: &mut [u32], vb: &mut [f64], tb: &m
     swap_words(ta, tb);
     let a = s.a;
     let b = s.b;
-    State {
+    Session {
         a: b,
         b: a,
         going: output::word(0),

@@ -1,17 +1,17 @@
 // The calls by their numbers, each on the parts of the arrays that its mesh or its case has.
 use crate::calls;
 use crate::exchange::exchange;
-use crate::state::State;
-use crate::state::after;
-use crate::state::going;
-use crate::state::stopped;
+use crate::session::Session;
+use crate::session::after;
+use crate::session::going;
+use crate::session::stopped;
 use replay_format::Head;
 use replay_slices::least;
 use slice::wide;
 use transform::TransformOp;
 
 // 6: measures A.
-fn measure(s: State, va: &[f64], ta: &[u32]) -> State {
+fn measure(s: Session, va: &[f64], ta: &[u32]) -> Session {
     let a = s.a;
     let n = least(a.floats, va.len());
     let k = least(a.numbers, ta.len());
@@ -21,7 +21,7 @@ fn measure(s: State, va: &[f64], ta: &[u32]) -> State {
 }
 
 // 2: clips an outline. The meshes stay as they are.
-fn clip(s: State, h: Head, work: &mut [u32], list: &[f64]) -> State {
+fn clip(s: Session, h: Head, work: &mut [u32], list: &[f64]) -> Session {
     let k = least(wide(h.triangle_numbers), work.len());
     let n = least(wide(h.list_floats), list.len());
     let written = calls::clip(&list[..n], &mut work[..k]);
@@ -29,7 +29,7 @@ fn clip(s: State, h: Head, work: &mut [u32], list: &[f64]) -> State {
 }
 
 // 8: loads A from the input.
-fn load(s: State, h: Head, va: &mut [f64], ta: &mut [u32]) -> State {
+fn load(s: Session, h: Head, va: &mut [f64], ta: &mut [u32]) -> Session {
     let n = least(wide(h.vertex_floats), va.len());
     let k = least(wide(h.triangle_numbers), ta.len());
     let r = calls::load(h, &mut va[..n], &mut ta[..k]);
@@ -37,7 +37,7 @@ fn load(s: State, h: Head, va: &mut [f64], ta: &mut [u32]) -> State {
 }
 
 // 3: appends B to A.
-fn append(s: State, va: &mut [f64], ta: &mut [u32], vb: &[f64], tb: &[u32]) -> State {
+fn append(s: Session, va: &mut [f64], ta: &mut [u32], vb: &[f64], tb: &[u32]) -> Session {
     let a = s.a;
     let b = s.b;
     let n = least(a.floats, va.len());
@@ -51,7 +51,7 @@ fn append(s: State, va: &mut [f64], ta: &mut [u32], vb: &[f64], tb: &[u32]) -> S
 }
 
 // 4: flips A.
-fn flip(s: State, va: &[f64], ta: &mut [u32]) -> State {
+fn flip(s: Session, va: &[f64], ta: &mut [u32]) -> Session {
     let a = s.a;
     let n = least(a.floats, va.len());
     let k = least(a.numbers, ta.len());
@@ -61,7 +61,13 @@ fn flip(s: State, va: &[f64], ta: &mut [u32]) -> State {
 }
 
 // 5: transforms A.
-fn transform(s: State, h: Head, ops: [TransformOp; 16], va: &mut [f64], ta: &mut [u32]) -> State {
+fn transform(
+    s: Session,
+    h: Head,
+    ops: [TransformOp; 16],
+    va: &mut [f64],
+    ta: &mut [u32],
+) -> Session {
     let a = s.a;
     let n = least(a.floats, va.len());
     let k = least(a.numbers, ta.len());
@@ -79,7 +85,7 @@ fn transform(s: State, h: Head, ops: [TransformOp; 16], va: &mut [f64], ta: &mut
 
 // A call by its number, other than 1. Any number that is no call's ends the run.
 pub fn call(
-    s: State,
+    s: Session,
     h: Head,
     ops: [TransformOp; 16],
     va: &mut [f64],
@@ -88,7 +94,7 @@ pub fn call(
     tb: &mut [u32],
     work: &mut [u32],
     list: &[f64],
-) -> State {
+) -> Session {
     let what = h.what;
     match what {
         2 => clip(s, h, work, list),

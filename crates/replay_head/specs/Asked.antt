@@ -5,20 +5,20 @@ use lib.Dec.{eqb, leb}
 use Rattle.replay_format.specs.declared.head.Head.{Head}
 
 -- the mesh's slices have no more than the most places
-abbrev pub meshWithinOf : Head → Bool
-meshWithinOf h = leb (h .«vertex_floats») 196608 && leb (h .«triangle_numbers») 393216
+abbrev pub meshAllowedOf : Head → Bool
+meshAllowedOf h = leb (h .«vertex_floats») 196608 && leb (h .«triangle_numbers») 393216
 
 -- no more than the most places, by the call's number: 1 tessellates, 2 clips, 8 loads, and the others lend what the mesh has
-unfoldable pub withinOfCall : ℕ → Head → Bool
-withinOfCall k h =
-    cond (eqb k 1) (meshWithinOf h && leb (h .«work_numbers») 131072)
+unfoldable pub allowedOfCall : ℕ → Head → Bool
+allowedOfCall k h =
+    cond (eqb k 1) (meshAllowedOf h && leb (h .«work_numbers») 131072)
     (cond (eqb k 2) (leb (h .«triangle_numbers») 131072)
-    (cond (eqb k 8) (meshWithinOf h)
+    (cond (eqb k 8) (meshAllowedOf h)
     true))
 
 -- whether a case asks for no more than the most places
-abbrev pub withinOf : Head → Bool
-withinOf h = withinOfCall (h .what) h
+abbrev pub allowedOf : Head → Bool
+allowedOf h = allowedOfCall (h .what) h
 
 -- n before a call, by the call's number: 8 loads, and reads its own
 unfoldable pub beforeCall : ℕ → ℕ → ℕ

@@ -1,24 +1,24 @@
 // What a case asks for, by the call's number.
 ghost use mathlib.Core.Path.{_≡_};
-ghost use Rattle.replay_head.specs.Asked.{meshWithinOf, withinOf, beforeCall, listFloatsOf, passedOf};
+ghost use Rattle.replay_head.specs.Asked.{meshAllowedOf, allowedOf, beforeCall, listFloatsOf, passedOf};
 use replay_format::Head;
 
 // Whether the mesh's slices have no more than the most places.
-fn mesh_within(h: Head) -> bool
-    ensures { λ r. ⌜ r ≡ meshWithinOf h ⌝ }
+fn mesh_allowed(h: Head) -> bool
+    ensures { λ r. ⌜ r ≡ meshAllowedOf h ⌝ }
 {
     (h.vertex_floats <= 196608) & (h.triangle_numbers <= 393216)
 }
 
 // Whether the case asks for no more than the most places.
-pub fn within(h: Head) -> bool
-    ensures { λ r. ⌜ r ≡ withinOf h ⌝ }
+pub fn allowed(h: Head) -> bool
+    ensures { λ r. ⌜ r ≡ allowedOf h ⌝ }
 {
     let what = h.what;
     match what {
-        1 => mesh_within(h) & (h.work_numbers <= 131072),
+        1 => mesh_allowed(h) & (h.work_numbers <= 131072),
         2 => h.triangle_numbers <= 131072,
-        8 => mesh_within(h),
+        8 => mesh_allowed(h),
         _ => true,
     }
 }

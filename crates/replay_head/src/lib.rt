@@ -4,9 +4,9 @@ mod case;
 mod kept;
 mod shapes;
 
+pub use asked::allowed;
 pub use asked::list_floats;
 pub use asked::passed;
-pub use asked::within;
 pub use case::Case;
 pub use case::case_of;
 pub use case::none;

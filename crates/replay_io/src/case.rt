@@ -16,7 +16,7 @@ fn read_head() -> Case {
 pub fn next(buf: &mut [u8; 65536]) -> Case {
     let c = read_head();
     let h = c.head;
-    if !replay_head::within(h) {
+    if !replay_head::allowed(h) {
         return replay_head::none();
     }
     if !input::op_bytes(slice::wide(h.op_count), buf) {

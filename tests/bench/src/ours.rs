@@ -48,27 +48,27 @@ macro_rules! solids {
 }
 
 solids! {
-    bench_box(x: f64, y: f64, z: f64, stop_x: f64, stop_y: f64, stop_z: f64);
-    bench_sphere(x: f64, y: f64, z: f64, radius: f64);
-    bench_cylinder(x: f64, y: f64, z: f64, stop_x: f64, stop_y: f64, stop_z: f64, radius: f64);
-    bench_extruded(norm_dir: u8, elevation: f64, depth: f64, list: *const f64, list_len: usize);
-    bench_rotated(norm_dir: u8, elevation: f64, rot_axis_dir: u8, start_angle: f64, stop_angle: f64, list: *const f64, list_len: usize);
-    bench_wire(radius: f64, list: *const f64, list_len: usize);
+    sizturga_bench_box(x: f64, y: f64, z: f64, stop_x: f64, stop_y: f64, stop_z: f64);
+    sizturga_bench_sphere(x: f64, y: f64, z: f64, radius: f64);
+    sizturga_bench_cylinder(x: f64, y: f64, z: f64, stop_x: f64, stop_y: f64, stop_z: f64, radius: f64);
+    sizturga_bench_extruded(norm_dir: u8, elevation: f64, depth: f64, list: *const f64, list_len: usize);
+    sizturga_bench_rotated(norm_dir: u8, elevation: f64, rot_axis_dir: u8, start_angle: f64, stop_angle: f64, list: *const f64, list_len: usize);
+    sizturga_bench_wire(radius: f64, list: *const f64, list_len: usize);
 }
 
 unsafe extern "C" {
-    fn bench_area(n: usize, k: usize, v: *const f64, v_len: usize, t: *const u32, t_len: usize) -> u64;
-    fn bench_signed_volume(n: usize, k: usize, v: *const f64, v_len: usize, t: *const u32, t_len: usize) -> u64;
-    fn bench_append(
+    fn sizturga_bench_area(n: usize, k: usize, v: *const f64, v_len: usize, t: *const u32, t_len: usize) -> u64;
+    fn sizturga_bench_signed_volume(n: usize, k: usize, v: *const f64, v_len: usize, t: *const u32, t_len: usize) -> u64;
+    fn sizturga_bench_append(
         n: *mut usize, k: *mut usize, v: *mut f64, v_len: usize, t: *mut u32, t_len: usize, other_n: usize,
         other_k: usize, other_v: *const f64, other_v_len: usize, other_t: *const u32, other_t_len: usize,
     ) -> u32;
-    fn bench_flip(n: *mut usize, k: *mut usize, v: *const f64, v_len: usize, t: *mut u32, t_len: usize) -> u32;
-    fn bench_transform(
+    fn sizturga_bench_flip(n: *mut usize, k: *mut usize, v: *const f64, v_len: usize, t: *mut u32, t_len: usize) -> u32;
+    fn sizturga_bench_transform(
         n: *mut usize, k: *mut usize, v: *mut f64, v_len: usize, t: *mut u32, t_len: usize, axis_x: f64, axis_y: f64,
         axis_z: f64, angle: f64, x: f64, y: f64, z: f64,
     ) -> u32;
-    fn bench_from_soup(
+    fn sizturga_bench_from_soup(
         soup: *const f64, soup_len: usize, v: *mut f64, v_len: usize, t: *mut u32, t_len: usize, work: *mut u32,
         work_len: usize, n: *mut usize, k: *mut usize,
     ) -> u32;
@@ -86,12 +86,12 @@ pub fn tessellate(solid: &Solid, segments: usize, rings: usize, m: &mut Lent) ->
         };
     }
     match solid {
-        Solid::Box(p, q) => call!(bench_box(p[0], p[1], p[2], q[0], q[1], q[2])),
-        Solid::Sphere(p, r) => call!(bench_sphere(p[0], p[1], p[2], *r)),
-        Solid::Cylinder(p, q, r) => call!(bench_cylinder(p[0], p[1], p[2], q[0], q[1], q[2], *r)),
-        Solid::Extruded(d, e, l, c) => call!(bench_extruded(*d, *e, *l, c.as_ptr(), c.len())),
-        Solid::Rotated(d, e, a, p, q, c) => call!(bench_rotated(*d, *e, *a, *p, *q, c.as_ptr(), c.len())),
-        Solid::Wire(r, c) => call!(bench_wire(*r, c.as_ptr(), c.len())),
+        Solid::Box(p, q) => call!(sizturga_bench_box(p[0], p[1], p[2], q[0], q[1], q[2])),
+        Solid::Sphere(p, r) => call!(sizturga_bench_sphere(p[0], p[1], p[2], *r)),
+        Solid::Cylinder(p, q, r) => call!(sizturga_bench_cylinder(p[0], p[1], p[2], q[0], q[1], q[2], *r)),
+        Solid::Extruded(d, e, l, c) => call!(sizturga_bench_extruded(*d, *e, *l, c.as_ptr(), c.len())),
+        Solid::Rotated(d, e, a, p, q, c) => call!(sizturga_bench_rotated(*d, *e, *a, *p, *q, c.as_ptr(), c.len())),
+        Solid::Wire(r, c) => call!(sizturga_bench_wire(*r, c.as_ptr(), c.len())),
     }
 }
 
@@ -103,17 +103,17 @@ fn measure(call: Measure, m: &Lent) -> f64 {
 }
 
 pub fn area(m: &Lent) -> f64 {
-    measure(bench_area, m)
+    measure(sizturga_bench_area, m)
 }
 
 pub fn signed_volume(m: &Lent) -> f64 {
-    measure(bench_signed_volume, m)
+    measure(sizturga_bench_signed_volume, m)
 }
 
 pub fn append(m: &mut Lent, o: &Lent) -> u32 {
     let (v, t) = (&mut m.vertices, &mut m.triangles);
     unsafe {
-        bench_append(
+        sizturga_bench_append(
             &mut m.vertex_count,
             &mut m.triangle_count,
             v.as_mut_ptr(),
@@ -132,14 +132,14 @@ pub fn append(m: &mut Lent, o: &Lent) -> u32 {
 
 pub fn flip(m: &mut Lent) -> u32 {
     let (v, t) = (&m.vertices, &mut m.triangles);
-    unsafe { bench_flip(&mut m.vertex_count, &mut m.triangle_count, v.as_ptr(), v.len(), t.as_mut_ptr(), t.len()) }
+    unsafe { sizturga_bench_flip(&mut m.vertex_count, &mut m.triangle_count, v.as_ptr(), v.len(), t.as_mut_ptr(), t.len()) }
 }
 
 /// A rotation about an axis through the origin, by radians, then a translation.
 pub fn transform(m: &mut Lent, axis: [f64; 3], angle: f64, by: [f64; 3]) -> u32 {
     let (v, t) = (&mut m.vertices, &mut m.triangles);
     unsafe {
-        bench_transform(
+        sizturga_bench_transform(
             &mut m.vertex_count,
             &mut m.triangle_count,
             v.as_mut_ptr(),
@@ -161,7 +161,7 @@ pub fn transform(m: &mut Lent, axis: [f64; 3], angle: f64, by: [f64; 3]) -> u32 
 pub fn from_soup(soup: &[f64], m: &mut Lent) -> u32 {
     let (v, t, w) = (&mut m.vertices, &mut m.triangles, &mut m.work);
     unsafe {
-        bench_from_soup(
+        sizturga_bench_from_soup(
             soup.as_ptr(),
             soup.len(),
             v.as_mut_ptr(),

@@ -8,7 +8,7 @@ use Rattle.replay_calls.proofs.steps.append.Reads as reads
 use Rattle.replay_calls.proofs.steps.append.Lts as lts
 use Rattle.replay_slices.proofs.least.Reads as least-reads
 use Rattle.replay_calls.proofs.calls.append.Reads as append-reads
-use Rattle.replay_calls.proofs.state.after.Reads as after-reads
+use Rattle.replay_calls.proofs.session.after.Reads as after-reads
 
 least-requires : tie.Need-least-requires
 least-requires c κs = search needs

@@ -8,7 +8,7 @@ use Rattle.replay_calls.proofs.steps.clip.Reads as reads
 use Rattle.replay_calls.proofs.steps.clip.Lts as lts
 use Rattle.replay_slices.proofs.least.Reads as least-reads
 use Rattle.replay_calls.proofs.calls.clip.Reads as clip-reads
-use Rattle.replay_calls.proofs.state.going.Reads as going-reads
+use Rattle.replay_calls.proofs.session.going.Reads as going-reads
 use Rattle.slice.proofs.wide.Reads as wide-reads
 
 wide-requires : tie.Need-wide-requires

@@ -8,7 +8,7 @@ use Rattle.replay_calls.proofs.steps.measure.Reads as reads
 use Rattle.replay_calls.proofs.steps.measure.Lts as lts
 use Rattle.replay_slices.proofs.least.Reads as least-reads
 use Rattle.replay_calls.proofs.calls.measure.Reads as measure-reads
-use Rattle.replay_calls.proofs.state.going.Reads as going-reads
+use Rattle.replay_calls.proofs.session.going.Reads as going-reads
 
 least-requires : tie.Need-least-requires
 least-requires c κs = search needs

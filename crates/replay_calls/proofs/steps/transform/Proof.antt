@@ -8,7 +8,7 @@ use Rattle.replay_calls.proofs.steps.transform.Reads as reads
 use Rattle.replay_calls.proofs.steps.transform.Lts as lts
 use Rattle.replay_slices.proofs.least.Reads as least-reads
 use Rattle.replay_calls.proofs.calls.transform.Reads as transform-reads
-use Rattle.replay_calls.proofs.state.after.Reads as after-reads
+use Rattle.replay_calls.proofs.session.after.Reads as after-reads
 use Rattle.slice.proofs.wide.Reads as wide-reads
 
 least-requires : tie.Need-least-requires

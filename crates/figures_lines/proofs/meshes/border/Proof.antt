@@ -1,9 +1,9 @@
--- `figures_lines::solids::border` is safe. Assumes nothing.
+-- `figures_lines::meshes::border` is safe. Assumes nothing.
 use native.Mathlib.Omega.{arith}
 use lib.ListN.{length-take}
 use borrow.Author.Needs.{needs}
-use Rattle.figures_lines.proofs.solids.border.Statement.{statement}
-use Rattle.figures_lines.proofs.solids.border.Tie as tie
+use Rattle.figures_lines.proofs.meshes.border.Statement.{statement}
+use Rattle.figures_lines.proofs.meshes.border.Tie as tie
 
 slice-aggregate-bytes : tie.Need-slice-aggregate-bytes
 slice-aggregate-bytes c = search needs

@@ -4,23 +4,23 @@ use Prim.Native.Nat.{ℕ}
 use Rattle.replay_format.specs.declared.head.Head.{Head}
 use Rattle.mesh_check.specs.declared.TriMesh.{TriMesh}
 use Rattle.replay_calls.specs.declared.calls.Answer.{Answer}
-use Rattle.replay_calls.specs.declared.state.Held.{Held}
-use Rattle.replay_calls.specs.declared.state.State.{State}
+use Rattle.replay_calls.specs.declared.session.Held.{Held}
+use Rattle.replay_calls.specs.declared.session.Session.{Session}
 
 -- a mesh with no vertices, in slices of no places
 abbrev pub noMesh : Held
 noMesh = record { mesh = record { vertices = 0; triangles = 0 }; floats = 0; numbers = 0 }
 
 -- two empty meshes, before the first call
-abbrev pub beginning : State
+abbrev pub beginning : Session
 beginning = record { a = noMesh; b = noMesh; going = true }
 
 -- the same meshes, and whether the run goes on
-abbrev pub goingOn : State → Bool → State
+abbrev pub goingOn : Session → Bool → Session
 goingOn s w = record { a = s .a; b = s .b; going = w }
 
 -- A is what a call answered, in slices of these lengths
-abbrev pub afterCall : State → Answer → ℕ → ℕ → State
+abbrev pub afterCall : Session → Answer → ℕ → ℕ → Session
 afterCall s r floats numbers = record { a = record { mesh = r .mesh; floats = floats; numbers = numbers }; b = s .b; going = r .written }
 
 -- the counts that a case claims for the mesh that it loads

@@ -1,8 +1,8 @@
--- `c_solids::meshes::bench_append` meets its contract, by that of `mesh::append`. Assumes nothing.
+-- `c_solids::meshes::sizturga_bench_append` meets its contract, by that of `mesh::append`. Assumes nothing.
 use borrow.Author.Needs.{needs}
 use Rattle.c_solids.proofs.Told.{leaves}
-use Rattle.c_solids.proofs.meshes.bench_append.Statement.{statement}
-use Rattle.c_solids.proofs.meshes.bench_append.Tie as tie
+use Rattle.c_solids.proofs.meshes.sizturga_bench_append.Statement.{statement}
+use Rattle.c_solids.proofs.meshes.sizturga_bench_append.Tie as tie
 
 append-requires : tie.Need-append-requires
 append-requires c κs = search needs
@@ -19,6 +19,6 @@ same-length-2 c = search needs
 returns : tie.Need-returns
 returns c = leaves (c .before .before .before .before .before .before .append .ensures) (c .number .ensures)
 
-pub bench-append-spec : {M : Type 1} → statement M
-bench-append-spec =
+pub sizturga-bench-append-spec : {M : Type 1} → statement M
+sizturga-bench-append-spec =
     tie.close (tie.spec append-requires number-requires same-length same-length-2 returns)

@@ -1,7 +1,7 @@
 // The meshes A and B.
 ghost use mathlib.Core.Path.{_≡_};
 ghost use mathlib.Core.Bool.{false};
-ghost use Rattle.replay_calls.specs.States.{noMesh, beginning, goingOn, afterCall};
+ghost use Rattle.replay_calls.specs.Sessions.{noMesh, beginning, goingOn, afterCall};
 use crate::calls::Answer;
 use mesh::TriMesh;
 
@@ -13,7 +13,7 @@ pub struct Held {
 }
 
 // A and B, and whether the run goes on.
-pub struct State {
+pub struct Session {
     pub a: Held,
     pub b: Held,
     pub going: bool,
@@ -33,10 +33,10 @@ fn empty() -> Held
 }
 
 // Two empty meshes.
-pub fn begun() -> State
+pub fn begun() -> Session
     ensures { λ r. ⌜ r ≡ beginning ⌝ }
 {
-    State {
+    Session {
         a: empty(),
         b: empty(),
         going: true,
@@ -44,7 +44,7 @@ pub fn begun() -> State
 }
 
 // The run goes on where the result was written.
-pub fn going(s: State, written: bool) -> State
+pub fn going(s: Session, written: bool) -> Session
     ensures { λ r. ⌜ r ≡ goingOn s written ⌝ }
 {
     let mut t = s;
@@ -52,19 +52,19 @@ pub fn going(s: State, written: bool) -> State
     t
 }
 
-pub fn stopped(s: State) -> State
+pub fn stopped(s: Session) -> Session
     ensures { λ r. ⌜ r ≡ goingOn s false ⌝ }
 {
     going(s, false)
 }
 
 // A is what a call answered, in slices of these lengths.
-pub fn after(s: State, r: Answer, floats: usize, numbers: usize) -> State
+pub fn after(s: Session, r: Answer, floats: usize, numbers: usize) -> Session
     ensures { λ t. ⌜ t ≡ afterCall s r floats numbers ⌝ }
 {
     let m = r.mesh;
     let b = s.b;
-    State {
+    Session {
         a: Held {
             mesh: m,
             floats: floats,

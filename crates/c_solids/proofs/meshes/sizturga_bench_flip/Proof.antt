@@ -1,8 +1,8 @@
--- `c_solids::meshes::bench_flip` meets its contract, by that of `mesh::flip`. Assumes nothing.
+-- `c_solids::meshes::sizturga_bench_flip` meets its contract, by that of `mesh::flip`. Assumes nothing.
 use borrow.Author.Needs.{needs}
 use Rattle.c_solids.proofs.Told.{leaves}
-use Rattle.c_solids.proofs.meshes.bench_flip.Statement.{statement}
-use Rattle.c_solids.proofs.meshes.bench_flip.Tie as tie
+use Rattle.c_solids.proofs.meshes.sizturga_bench_flip.Statement.{statement}
+use Rattle.c_solids.proofs.meshes.sizturga_bench_flip.Tie as tie
 
 flip-requires : tie.Need-flip-requires
 flip-requires c κs = search needs
@@ -16,5 +16,5 @@ same-length c = search needs
 returns : tie.Need-returns
 returns c = leaves (c .before .before .before .before .flip .ensures) (c .number .ensures)
 
-pub bench-flip-spec : {M : Type 1} → statement M
-bench-flip-spec = tie.close (tie.spec flip-requires number-requires same-length returns)
+pub sizturga-bench-flip-spec : {M : Type 1} → statement M
+sizturga-bench-flip-spec = tie.close (tie.spec flip-requires number-requires same-length returns)

@@ -1,6 +1,6 @@
 // The solids with their counts.
-use crate::draw;
-use figures_lines::solids;
+use crate::drawn;
+use figures_lines::meshes;
 use figures_lines::titles;
 use math::Vec3;
 use shape::Shape;
@@ -18,11 +18,11 @@ fn box_to(stop: Vec3, first: bool) {
     };
     let mut v = [0.0; 24];
     let mut t = [0u32; 36];
-    let m = draw::draw(shape, 32, 16, &mut v, &mut t);
-    solids::border(&t, m.triangles);
-    solids::measures(m, &v, &t);
+    let m = drawn::draw(shape, 32, 16, &mut v, &mut t);
+    meshes::border(&t, m.triangles);
+    meshes::measures(m, &v, &t);
     if first {
-        solids::first(&v, &t);
+        meshes::first(&v, &t);
     }
 }
 
@@ -38,7 +38,7 @@ pub fn sphere(center: Vec3, name: &[u8], radius: f64, segments: usize, rings: us
         center: center,
         radius: radius,
     };
-    draw::counts(shape, segments, rings);
+    drawn::counts(shape, segments, rings);
 }
 
 pub fn spheres() {
@@ -57,8 +57,8 @@ fn cylinder(radius: f64, v: &mut [f64], t: &mut [u32]) {
         stop: at(0.0, 0.0, 1.0),
         radius: radius,
     };
-    let m = draw::draw(shape, 3, 2, v, t);
-    solids::border(t, m.triangles);
+    let m = drawn::draw(shape, 3, 2, v, t);
+    meshes::border(t, m.triangles);
 }
 
 fn shell(width: f64, v: &mut [f64], t: &mut [u32]) {
@@ -69,8 +69,8 @@ fn shell(width: f64, v: &mut [f64], t: &mut [u32]) {
         radius: 1.0,
         shell_width: width,
     };
-    let m = draw::draw(shape, 3, 2, v, t);
-    solids::border(t, m.triangles);
+    let m = drawn::draw(shape, 3, 2, v, t);
+    meshes::border(t, m.triangles);
 }
 
 // Writes whether the mesh in v and t is the cylinder of radius 2.5.

@@ -1,7 +1,7 @@
 // Call 1: the solid of a case.
 use mesh::Edited;
 use replay_calls::Answer;
-use replay_calls::State;
+use replay_calls::Session;
 use replay_calls::after;
 use replay_head::Case;
 use replay_head::own_system;
@@ -65,14 +65,14 @@ fn drawn(
 
 // 1: tessellates into A, in the parts of the arrays that the case has.
 pub fn tessellate(
-    s: State,
+    s: Session,
     c: Case,
     ops: [TransformOp; 16],
     va: &mut [f64],
     ta: &mut [u32],
     work: &mut [u32],
     list: &[f64],
-) -> State {
+) -> Session {
     let h = c.head;
     let n = least(wide(h.vertex_floats), va.len());
     let k = least(wide(h.triangle_numbers), ta.len());

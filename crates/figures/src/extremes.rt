@@ -1,49 +1,50 @@
 // The last input that is taken, and the first that is refused.
-use crate::draw;
-use crate::solids;
+use crate::drawings;
+use crate::drawn;
 use figures_lines::titles;
 use shape::Shape;
 use transform::TransformOp;
 
 fn first_box() -> Shape {
     Shape::Box {
-        start: solids::at(0.0, 0.0, 0.0),
-        stop: solids::at(1.0, 2.0, 3.0),
+        start: drawings::at(0.0, 0.0, 0.0),
+        stop: drawings::at(1.0, 2.0, 3.0),
     }
 }
 
-fn turned(name: &[u8], angle: f64) {
-    titles::turned(name);
-    draw::moved(first_box(), TransformOp::RotateZ(angle));
+// The first box, turned about z by an angle with a name.
+fn about_z(name: &[u8], angle: f64) {
+    titles::turned_box(name);
+    drawn::moved(first_box(), TransformOp::RotateZ(angle));
 }
 
 fn segments() {
-    let origin = solids::at(0.0, 0.0, 0.0);
-    solids::sphere(origin, b"1", 1.0, 1024, 2);
-    solids::sphere(origin, b"1", 1.0, 1025, 2);
+    let origin = drawings::at(0.0, 0.0, 0.0);
+    drawings::sphere(origin, b"1", 1.0, 1024, 2);
+    drawings::sphere(origin, b"1", 1.0, 1025, 2);
 }
 
 fn angles() {
     // 1000.0 has the bits 408F400000000000.
     let next = slice_bytes::from_bits(0x408F400000000001);
-    turned(b"1000", 1000.0);
-    turned(b"the float after 1000", next);
+    about_z(b"1000", 1000.0);
+    about_z(b"the float after 1000", next);
 }
 
 fn wide_box() {
     figures_text::bytes(b"box (-1e308,0,0) to (1e308,1,1): ");
     let shape = Shape::Box {
-        start: solids::at(-1e308, 0.0, 0.0),
-        stop: solids::at(1e308, 1.0, 1.0),
+        start: drawings::at(-1e308, 0.0, 0.0),
+        stop: drawings::at(1e308, 1.0, 1.0),
     };
-    draw::counts(shape, 32, 16);
+    drawn::counts(shape, 32, 16);
 }
 
 fn seven_places() {
     figures_text::bytes(b"box (0,0,0) to (1,2,3) in 7 vertex places: ");
     let mut v = [0.0; 21];
     let mut t = [0u32; 36];
-    draw::draw(first_box(), 32, 16, &mut v, &mut t);
+    drawn::draw(first_box(), 32, 16, &mut v, &mut t);
     figures_text::bytes(b"\n");
 }
 

@@ -1,7 +1,7 @@
--- `replay_calls::state::begun` meets its contract. Assumes nothing.
+-- `replay_calls::session::begun` meets its contract. Assumes nothing.
 use mathlib.Core.Bool.{true}
-use Rattle.replay_calls.proofs.state.begun.Statement.{statement}
-use Rattle.replay_calls.proofs.state.begun.Tie as tie
+use Rattle.replay_calls.proofs.session.begun.Statement.{statement}
+use Rattle.replay_calls.proofs.session.begun.Tie as tie
 
 empty-requires : tie.Need-empty-requires
 empty-requires c κs = tt

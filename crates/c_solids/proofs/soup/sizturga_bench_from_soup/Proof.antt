@@ -1,8 +1,8 @@
--- `c_solids::soup::bench_from_soup` meets its contract, by that of `weld_from_soup::from_soup`. Assumes nothing.
+-- `c_solids::soup::sizturga_bench_from_soup` meets its contract, by that of `weld_from_soup::from_soup`. Assumes nothing.
 use borrow.Author.Needs.{needs}
 use Rattle.c_solids.proofs.Told.{tells}
-use Rattle.c_solids.proofs.soup.bench_from_soup.Statement.{statement}
-use Rattle.c_solids.proofs.soup.bench_from_soup.Tie as tie
+use Rattle.c_solids.proofs.soup.sizturga_bench_from_soup.Statement.{statement}
+use Rattle.c_solids.proofs.soup.sizturga_bench_from_soup.Tie as tie
 
 from-soup-requires : tie.Need-from-soup-requires
 from-soup-requires c κs = search needs
@@ -22,7 +22,7 @@ same-length-3 c = search needs
 returns : tie.Need-returns
 returns c = tells (c .before .before .before .before .before .before .before .before .from-soup .ensures) (c .number .ensures)
 
-pub bench-from-soup-spec : {M : Type 1} → statement M
-bench-from-soup-spec =
+pub sizturga-bench-from-soup-spec : {M : Type 1} → statement M
+sizturga-bench-from-soup-spec =
     tie.close
     (tie.spec from-soup-requires number-requires same-length same-length-2 same-length-3 returns)

@@ -1,8 +1,8 @@
--- `c_solids::meshes::bench_transform` meets its contract, by that of `mesh::transform`. Assumes nothing.
+-- `c_solids::meshes::sizturga_bench_transform` meets its contract, by that of `mesh::transform`. Assumes nothing.
 use borrow.Author.Needs.{needs}
 use Rattle.c_solids.proofs.Told.{leaves}
-use Rattle.c_solids.proofs.meshes.bench_transform.Statement.{statement}
-use Rattle.c_solids.proofs.meshes.bench_transform.Tie as tie
+use Rattle.c_solids.proofs.meshes.sizturga_bench_transform.Statement.{statement}
+use Rattle.c_solids.proofs.meshes.sizturga_bench_transform.Tie as tie
 
 array-set-from-ops : tie.Need-array-set-from-ops
 array-set-from-ops c = search needs
@@ -22,8 +22,8 @@ same-length-2 c = search needs
 returns : tie.Need-returns
 returns c = leaves (c .before .before .before .before .before .before .transform .ensures) (c .number .ensures)
 
-pub bench-transform-spec : {M : Type 1} → statement M
-bench-transform-spec =
+pub sizturga-bench-transform-spec : {M : Type 1} → statement M
+sizturga-bench-transform-spec =
     tie.close
     (tie.spec
     array-set-from-ops

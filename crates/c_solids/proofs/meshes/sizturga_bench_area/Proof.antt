@@ -1,0 +1,15 @@
+-- `c_solids::meshes::sizturga_bench_area` meets its contract, by that of `mesh::area`. Assumes nothing.
+use mathlib.Core.Path.{ap}
+use borrow.Author.Needs.{needs}
+use Rattle.mesh_measures.specs.declared.Measured.{Measured}
+use Rattle.c_solids.proofs.meshes.sizturga_bench_area.Statement.{statement}
+use Rattle.c_solids.proofs.meshes.sizturga_bench_area.Tie as tie
+
+area-requires : tie.Need-area-requires
+area-requires c κs = search needs
+
+returns : tie.Need-returns
+returns c = ap (λ (m : Measured). m .bits) (c .area .ensures)
+
+pub sizturga-bench-area-spec : {M : Type 1} → statement M
+sizturga-bench-area-spec = tie.close (tie.spec area-requires returns)

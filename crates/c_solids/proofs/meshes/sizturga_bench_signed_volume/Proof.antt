@@ -1,0 +1,15 @@
+-- `c_solids::meshes::sizturga_bench_signed_volume` meets its contract, by that of `mesh::signed_volume`. Assumes nothing.
+use mathlib.Core.Path.{ap}
+use borrow.Author.Needs.{needs}
+use Rattle.mesh_measures.specs.declared.Measured.{Measured}
+use Rattle.c_solids.proofs.meshes.sizturga_bench_signed_volume.Statement.{statement}
+use Rattle.c_solids.proofs.meshes.sizturga_bench_signed_volume.Tie as tie
+
+signed-volume-requires : tie.Need-signed-volume-requires
+signed-volume-requires c κs = search needs
+
+returns : tie.Need-returns
+returns c = ap (λ (m : Measured). m .bits) (c .signed-volume .ensures)
+
+pub sizturga-bench-signed-volume-spec : {M : Type 1} → statement M
+sizturga-bench-signed-volume-spec = tie.close (tie.spec signed-volume-requires returns)
