@@ -11,6 +11,7 @@ use Rattle.transform.specs.declared.TransformOp.the-variants.{Translate, Rotate
 use Rattle.refusal.specs.Number.{numberOf}
 use Rattle.shape.specs.declared.Shape.{Shape}
 use Rattle.shape.specs.declared.OwnSystem.the-variants.{Inherited}
+use Rattle.shape.specs.declared.CoordSystem.{CoordSystem}
 use Rattle.shape.specs.declared.CoordSystem.the-variants.{Cartesian}
 use Rattle.mesh_check.specs.declared.TriMesh.{TriMesh}
 use Rattle.mesh.specs.Outcome as Edit
@@ -32,9 +33,13 @@ unread = replicate 1 (ofBits binary64 0)
 abbrev pub noOps : List TransformOp
 noOps = replicate 16 (Scale (ofBits binary64 4607182418800017408))
 
--- a shape in the Cartesian system, without operations
+-- a shape in a coordinate system, without operations
+abbrev pub solidIn : CoordSystem → Shape → List Float → ℕ → ℕ → ℕ → ℕ → ℕ → Outcome
+solidIn system shape list segments rings = tessellateOf (job shape list Inherited system (record { segments = segments; «sphere_rings» = rings }) false noOps 0)
+
+-- the same in the Cartesian system
 abbrev pub solidOf : Shape → List Float → ℕ → ℕ → ℕ → ℕ → ℕ → Outcome
-solidOf shape list segments rings = tessellateOf (job shape list Inherited Cartesian (record { segments = segments; «sphere_rings» = rings }) false noOps 0)
+solidOf = solidIn Cartesian
 
 -- 16 operations, of which two count: a rotation about an axis through the origin, then a translation
 abbrev pub turnThenMove : Vec3 → Float → Vec3 → List TransformOp

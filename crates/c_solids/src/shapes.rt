@@ -1,7 +1,7 @@
-// The solids, Cartesian and without operations.
+// The solids, without operations.
 ghost use lib.ListN.{length};
 ghost use Rattle.shape.specs.declared.Shape.the-variants as Shape;
-ghost use Rattle.c_solids.specs.Answers.{Tells, solidOf, at, unread};
+ghost use Rattle.c_solids.specs.Answers.{Tells, solidIn, solidOf, at, unread};
 use math::Vec3;
 use shape::CoordSystem;
 use shape::OwnSystem;
@@ -10,7 +10,8 @@ use shape::TessellationOptions;
 use transform::TransformOp;
 
 // The mesh of a shape in the lent slices, and its counts.
-fn solid(
+pub fn solid(
+    system: CoordSystem,
     shape: Shape,
     list: &[f64],
     segments: usize,
@@ -22,7 +23,7 @@ fn solid(
     triangle_count: &mut usize,
 ) -> u32
     ensures { λ r. ⌜ Tells
-        (solidOf shape (now (list .entry)) segments rings (length (now (vertices .entry))) (length (now (triangles .entry))) (length (now (work .entry))))
+        (solidIn system shape (now (list .entry)) segments rings (length (now (vertices .entry))) (length (now (triangles .entry))) (length (now (work .entry))))
         r (now («vertex_count» .exit)) (now («triangle_count» .exit)) (now (vertices .exit)) (now (triangles .exit)) (now (work .exit)) ⌝ }
 {
     let none = TransformOp::Scale(1.0);
@@ -34,7 +35,7 @@ fn solid(
         shape,
         list,
         OwnSystem::Inherited,
-        CoordSystem::Cartesian,
+        system,
         options,
         false,
         [none; 16],
@@ -72,6 +73,7 @@ pub extern "C" fn sizturga_bench_box(
 {
     let list = [0.0; 1];
     solid(
+        CoordSystem::Cartesian,
         Shape::Box {
             start: Vec3 { x, y, z },
             stop: Vec3 {
@@ -111,6 +113,7 @@ pub extern "C" fn sizturga_bench_sphere(
 {
     let list = [0.0; 1];
     solid(
+        CoordSystem::Cartesian,
         Shape::Sphere {
             center: Vec3 { x, y, z },
             radius,
@@ -149,6 +152,7 @@ pub extern "C" fn sizturga_bench_cylinder(
 {
     let list = [0.0; 1];
     solid(
+        CoordSystem::Cartesian,
         Shape::Cylinder {
             start: Vec3 { x, y, z },
             stop: Vec3 {
@@ -159,6 +163,41 @@ pub extern "C" fn sizturga_bench_cylinder(
             radius,
         },
         &list,
+        segments,
+        rings,
+        vertices,
+        triangles,
+        work,
+        vertex_count,
+        triangle_count,
+    )
+}
+
+// An outline, two floats a corner.
+#[no_mangle]
+pub extern "C" fn sizturga_bench_polygon(
+    norm_dir: u8,
+    elevation: f64,
+    list: &[f64],
+    segments: usize,
+    rings: usize,
+    vertices: &mut [f64],
+    triangles: &mut [u32],
+    work: &mut [u32],
+    vertex_count: &mut usize,
+    triangle_count: &mut usize,
+) -> u32
+    ensures { λ r. ⌜ Tells
+        (solidOf (Shape.Polygon «norm_dir» elevation) (now (list .entry)) segments rings (length (now (vertices .entry))) (length (now (triangles .entry))) (length (now (work .entry))))
+        r (now («vertex_count» .exit)) (now («triangle_count» .exit)) (now (vertices .exit)) (now (triangles .exit)) (now (work .exit)) ⌝ }
+{
+    solid(
+        CoordSystem::Cartesian,
+        Shape::Polygon {
+            norm_dir,
+            elevation,
+        },
+        list,
         segments,
         rings,
         vertices,
@@ -189,6 +228,7 @@ pub extern "C" fn sizturga_bench_extruded(
         r (now («vertex_count» .exit)) (now («triangle_count» .exit)) (now (vertices .exit)) (now (triangles .exit)) (now (work .exit)) ⌝ }
 {
     solid(
+        CoordSystem::Cartesian,
         Shape::LinPoly {
             norm_dir,
             elevation,
@@ -227,6 +267,7 @@ pub extern "C" fn sizturga_bench_rotated(
         r (now («vertex_count» .exit)) (now («triangle_count» .exit)) (now (vertices .exit)) (now (triangles .exit)) (now (work .exit)) ⌝ }
 {
     solid(
+        CoordSystem::Cartesian,
         Shape::RotPoly {
             norm_dir,
             elevation,
@@ -263,6 +304,7 @@ pub extern "C" fn sizturga_bench_wire(
         r (now («vertex_count» .exit)) (now («triangle_count» .exit)) (now (vertices .exit)) (now (triangles .exit)) (now (work .exit)) ⌝ }
 {
     solid(
+        CoordSystem::Cartesian,
         Shape::Wire { radius },
         list,
         segments,

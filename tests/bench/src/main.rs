@@ -1,25 +1,13 @@
 //! Times crates/c_solids beside the unpatched Rust. `bench [REPETITIONS [ROW]]`: a line for each row whose name holds the text ROW: its name,
 //! ns a triangle ours and of the Rust, and the Rust's over ours. Medians; ours and the Rust take turns.
 mod inputs;
-mod ours;
 mod rows;
 
 use rows::Side;
+use sides::clock::{median, timed};
 
 /// A sample lasts at least this long: small calls are repeated within it.
 const SAMPLE_NS: f64 = 5e6;
-
-unsafe extern "C" {
-    fn clock_gettime(clock: i32, time: *mut [i64; 2]) -> i32;
-}
-
-/// Processor time of this thread in nanoseconds, the system's work for it included: other programs' turns do not count.
-fn now() -> f64 {
-    const CLOCK_THREAD_CPUTIME_ID: i32 = 3;
-    let mut time = [0; 2];
-    assert_eq!(unsafe { clock_gettime(CLOCK_THREAD_CPUTIME_ID, &mut time) }, 0);
-    time[0] as f64 * 1e9 + time[1] as f64
-}
 
 fn main() {
     let mut args = std::env::args().skip(1);
@@ -65,15 +53,4 @@ fn sample(side: &mut Side, n: usize) -> f64 {
             .sum(),
     };
     spent / n as f64
-}
-
-fn timed(mut call: impl FnMut()) -> f64 {
-    let begin = now();
-    call();
-    now() - begin
-}
-
-fn median(mut times: Vec<f64>) -> f64 {
-    times.sort_by(f64::total_cmp);
-    times[times.len() / 2]
 }

@@ -1,10 +1,9 @@
 //! What is measured: for each row a call of ours and a call of the Rust, on the same input.
 use crate::inputs::{grid, ring, screw, star};
-use crate::ours::{self, Lent, Solid};
-use csx_plain::CoordSystem::Cartesian;
-use csx_plain::primitives::{BoxShape, Cylinder, LinPoly, Primitive, RotPoly, Sphere, Wire};
-use csx_plain::tessellate::{TessellationOptions, TriMesh, tessellate};
+use csx_plain::tessellate::TriMesh;
 use csx_plain::{Mat4, Vec3};
+use sides::ours::{self, Lent, Solid};
+use sides::rust;
 use std::cell::RefCell;
 use std::f64::consts::TAU;
 use std::hint::black_box;
@@ -72,61 +71,49 @@ fn agree(name: &str, refusal: u32, lent: &Lent, mesh: &TriMesh) {
 
 /// A solid on both sides. The vertex and triangle slices have exactly the places that the result needs, as a caller lends them that knows
 /// its size; the work slice has two numbers for each vertex place, the fewest that are accepted.
-fn solid(name: &'static str, solid: Solid, primitive: Primitive, segments: usize, rings: usize) -> Row {
-    let options = TessellationOptions::default().with_segments(segments).with_sphere_rings(rings);
-    let mesh = tessellate(&primitive, Cartesian, &options);
+fn solid(name: &'static str, solid: Solid, segments: usize, rings: usize) -> Row {
+    let (primitive, system, options) = (rust::primitive(&solid), rust::system(&solid), rust::options(segments, rings));
+    let mesh = rust::tessellate(&primitive, system, &options);
     let mut lent = Lent::new(mesh.vertices.len(), mesh.triangles.len());
     agree(name, ours::tessellate(&solid, segments, rings, &mut lent), &lent, &mesh);
     Row {
         name,
         triangles: mesh.triangles.len(),
         ours: again(move || _ = black_box(ours::tessellate(black_box(&solid), segments, rings, &mut lent))),
-        rust: again(move || _ = black_box(tessellate(black_box(&primitive), Cartesian, &options))),
+        rust: again(move || _ = black_box(rust::tessellate(black_box(&primitive), system, &options))),
     }
 }
 
 const CENTER: [f64; 3] = [0.5, 1.0, 2.0];
 
 fn sphere(name: &'static str, segments: usize, rings: usize) -> Row {
-    solid(name, Solid::Sphere(CENTER, 1.5), Sphere::new(CENTER, 1.5).into(), segments, rings)
+    solid(name, Solid::Sphere(CENTER, 1.5), segments, rings)
 }
 
 fn cylinder(name: &'static str) -> Row {
-    let (a, b) = ([0.5, 1.0, 2.0], [1.5, 3.0, 5.0]);
-    solid(name, Solid::Cylinder(a, b, 1.5), Cylinder::new(a, b, 1.5).into(), 1024, 16)
+    solid(name, Solid::Cylinder([0.5, 1.0, 2.0], [1.5, 3.0, 5.0], 1.5), 1024, 16)
 }
 
 fn a_box(name: &'static str) -> Row {
-    let (a, b) = ([0.0, 0.0, 0.0], [1.0, 2.0, 3.0]);
-    solid(name, Solid::Box(a, b), BoxShape::new(a, b).into(), 32, 16)
-}
-
-fn pairs(list: &[f64]) -> Vec<(f64, f64)> {
-    list.chunks_exact(2).map(|c| (c[0], c[1])).collect()
+    solid(name, Solid::Box([0.0, 0.0, 0.0], [1.0, 2.0, 3.0]), 32, 16)
 }
 
 fn extruded(name: &'static str) -> Row {
-    let corners = star(512);
-    let primitive = LinPoly::new(2, 1.0, 2.0, pairs(&corners)).into();
-    solid(name, Solid::Extruded(2, 1.0, 2.0, corners), primitive, 32, 16)
+    solid(name, Solid::Extruded(2, 1.0, 2.0, star(512)), 32, 16)
 }
 
 fn rotated(name: &'static str) -> Row {
-    let corners = ring(64);
-    let primitive = RotPoly { stop_angle: TAU.into(), ..RotPoly::new(1, 2, pairs(&corners)) }.into();
-    solid(name, Solid::Rotated(1, 0.0, 2, 0.0, TAU, corners), primitive, 128, 16)
+    solid(name, Solid::Rotated(1, 0.0, 2, 0.0, TAU, ring(64)), 128, 16)
 }
 
 fn wire(name: &'static str) -> Row {
-    let points = screw(256);
-    let primitive = Wire::new(points.chunks_exact(3).map(|c| [c[0], c[1], c[2]]), 0.05).into();
-    solid(name, Solid::Wire(0.05, points), primitive, 32, 16)
+    solid(name, Solid::Wire(0.05, screw(256)), 32, 16)
 }
 
 /// The sphere of the mesh rows, by the Rust.
 fn ball() -> TriMesh {
-    let options = TessellationOptions::default().with_segments(256).with_sphere_rings(128);
-    tessellate(&Sphere::new(CENTER, 1.5).into(), Cartesian, &options)
+    let solid = Solid::Sphere(CENTER, 1.5);
+    rust::tessellate(&rust::primitive(&solid), rust::system(&solid), &rust::options(256, 128))
 }
 
 /// The sphere of the mesh rows, on both sides, in slices with places for `times` as much.

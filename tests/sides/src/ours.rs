@@ -24,10 +24,21 @@ impl Lent {
 }
 
 /// A solid as crates/c_solids takes it.
+#[derive(Clone, Debug)]
 pub enum Solid {
     Box([f64; 3], [f64; 3]),
+    /// A box whose corners are (ρ, α, z).
+    Sector([f64; 3], [f64; 3]),
+    /// Six floats a box.
+    MultiBox(Vec<f64>),
     Sphere([f64; 3], f64),
+    /// Centre, radius, width.
+    SphericalShell([f64; 3], f64, f64),
     Cylinder([f64; 3], [f64; 3], f64),
+    /// Ends of the axis, radius, width.
+    CylindricalShell([f64; 3], [f64; 3], f64, f64),
+    /// Direction, elevation, corners.
+    Polygon(u8, f64, Vec<f64>),
     /// Direction, elevation, length, corners.
     Extruded(u8, f64, f64, Vec<f64>),
     /// Direction, elevation, axis, start and stop angle, corners.
@@ -49,8 +60,13 @@ macro_rules! solids {
 
 solids! {
     sizturga_bench_box(x: f64, y: f64, z: f64, stop_x: f64, stop_y: f64, stop_z: f64);
+    sizturga_bench_sector(x: f64, y: f64, z: f64, stop_x: f64, stop_y: f64, stop_z: f64);
+    sizturga_bench_multi_box(list: *const f64, list_len: usize);
     sizturga_bench_sphere(x: f64, y: f64, z: f64, radius: f64);
+    sizturga_bench_spherical_shell(x: f64, y: f64, z: f64, radius: f64, width: f64);
     sizturga_bench_cylinder(x: f64, y: f64, z: f64, stop_x: f64, stop_y: f64, stop_z: f64, radius: f64);
+    sizturga_bench_cylindrical_shell(x: f64, y: f64, z: f64, stop_x: f64, stop_y: f64, stop_z: f64, radius: f64, width: f64);
+    sizturga_bench_polygon(norm_dir: u8, elevation: f64, list: *const f64, list_len: usize);
     sizturga_bench_extruded(norm_dir: u8, elevation: f64, depth: f64, list: *const f64, list_len: usize);
     sizturga_bench_rotated(norm_dir: u8, elevation: f64, rot_axis_dir: u8, start_angle: f64, stop_angle: f64, list: *const f64, list_len: usize);
     sizturga_bench_wire(radius: f64, list: *const f64, list_len: usize);
@@ -60,17 +76,46 @@ unsafe extern "C" {
     fn sizturga_bench_area(n: usize, k: usize, v: *const f64, v_len: usize, t: *const u32, t_len: usize) -> u64;
     fn sizturga_bench_signed_volume(n: usize, k: usize, v: *const f64, v_len: usize, t: *const u32, t_len: usize) -> u64;
     fn sizturga_bench_append(
-        n: *mut usize, k: *mut usize, v: *mut f64, v_len: usize, t: *mut u32, t_len: usize, other_n: usize,
-        other_k: usize, other_v: *const f64, other_v_len: usize, other_t: *const u32, other_t_len: usize,
+        n: *mut usize,
+        k: *mut usize,
+        v: *mut f64,
+        v_len: usize,
+        t: *mut u32,
+        t_len: usize,
+        other_n: usize,
+        other_k: usize,
+        other_v: *const f64,
+        other_v_len: usize,
+        other_t: *const u32,
+        other_t_len: usize,
     ) -> u32;
     fn sizturga_bench_flip(n: *mut usize, k: *mut usize, v: *const f64, v_len: usize, t: *mut u32, t_len: usize) -> u32;
     fn sizturga_bench_transform(
-        n: *mut usize, k: *mut usize, v: *mut f64, v_len: usize, t: *mut u32, t_len: usize, axis_x: f64, axis_y: f64,
-        axis_z: f64, angle: f64, x: f64, y: f64, z: f64,
+        n: *mut usize,
+        k: *mut usize,
+        v: *mut f64,
+        v_len: usize,
+        t: *mut u32,
+        t_len: usize,
+        axis_x: f64,
+        axis_y: f64,
+        axis_z: f64,
+        angle: f64,
+        x: f64,
+        y: f64,
+        z: f64,
     ) -> u32;
     fn sizturga_bench_from_soup(
-        soup: *const f64, soup_len: usize, v: *mut f64, v_len: usize, t: *mut u32, t_len: usize, work: *mut u32,
-        work_len: usize, n: *mut usize, k: *mut usize,
+        soup: *const f64,
+        soup_len: usize,
+        v: *mut f64,
+        v_len: usize,
+        t: *mut u32,
+        t_len: usize,
+        work: *mut u32,
+        work_len: usize,
+        n: *mut usize,
+        k: *mut usize,
     ) -> u32;
 }
 
@@ -87,8 +132,15 @@ pub fn tessellate(solid: &Solid, segments: usize, rings: usize, m: &mut Lent) ->
     }
     match solid {
         Solid::Box(p, q) => call!(sizturga_bench_box(p[0], p[1], p[2], q[0], q[1], q[2])),
+        Solid::Sector(p, q) => call!(sizturga_bench_sector(p[0], p[1], p[2], q[0], q[1], q[2])),
+        Solid::MultiBox(c) => call!(sizturga_bench_multi_box(c.as_ptr(), c.len())),
         Solid::Sphere(p, r) => call!(sizturga_bench_sphere(p[0], p[1], p[2], *r)),
+        Solid::SphericalShell(p, r, w) => call!(sizturga_bench_spherical_shell(p[0], p[1], p[2], *r, *w)),
         Solid::Cylinder(p, q, r) => call!(sizturga_bench_cylinder(p[0], p[1], p[2], q[0], q[1], q[2], *r)),
+        Solid::CylindricalShell(p, q, r, w) => {
+            call!(sizturga_bench_cylindrical_shell(p[0], p[1], p[2], q[0], q[1], q[2], *r, *w))
+        }
+        Solid::Polygon(d, e, c) => call!(sizturga_bench_polygon(*d, *e, c.as_ptr(), c.len())),
         Solid::Extruded(d, e, l, c) => call!(sizturga_bench_extruded(*d, *e, *l, c.as_ptr(), c.len())),
         Solid::Rotated(d, e, a, p, q, c) => call!(sizturga_bench_rotated(*d, *e, *a, *p, *q, c.as_ptr(), c.len())),
         Solid::Wire(r, c) => call!(sizturga_bench_wire(*r, c.as_ptr(), c.len())),
