@@ -1,22 +1,21 @@
 -- Laws of `padded`, `reversed` and `swapped`, in the form that the code's loops go by. Assumes nothing.
-use Prim.Native.Nat.{ℕ, zero, suc, _+_, _-_, _*_, _/_, _<_, _≤_}
+use Prim.Native.Nat.{ℕ, _+_, _-_, _*_, _/_, _<_, _≤_}
 use mathlib.Core.Path.{_≡_, refl, sym, ap, _∙_}
 use mathlib.Core.Bool.{Bool, true, false}
 use mathlib.Core.List.{List, [], _∷_, _++_, append-assoc, append-nil}
-use native.Mathlib.Numerals.{add-one}
 use native.Mathlib.Nat.{not-suc-le-zero, le-of-suc-le-suc}
 use native.Mathlib.Omega.{arith}
-use lib.ListN.{length, getD, take, drop, replicate, length-drop, length-append, take-append-drop}
-use lib.Seq.{drop-cons, length-take-le, take-at, drop-at}
-use lib.Ieee.{Float, nan, binary64, lt, ofBits}
+use lib.ListN.{length, take, drop, replicate, length-drop, length-append, take-append-drop}
+use lib.Seq.{length-take-le, take-at, drop-at}
+use lib.Ieee.{Float, binary64, lt, ofBits}
 use Rattle.slice.specs.Cleared.{clearedFrom}
 use Rattle.outline.specs.Corners.{point, padded}
 use Rattle.outline.specs.Clean.{cleanPolygon}
 use Rattle.outline.specs.Area.{signedArea}
-use Rattle.outline.specs.Ccw.{swapped, reversed, pickCorners, ccwPolygon, prepared}
-use Rattle.outline.specs.Slices.{Wrote, Copied}
+use Rattle.outline.specs.Ccw.{swapped, reversed, ccwPolygon, prepared}
+use Rattle.outline.specs.Slices.{WroteCorner, Copied}
 use Rattle.outline.specs.declared.Point.{Point}
-use Rattle.outline.proofs.Laws.{drop-further}
+use Rattle.outline.proofs.Laws.{drop-further, drop-pair}
 
 abbrev zeroes : ℕ → List Float
 zeroes n = replicate n (ofBits binary64 0)
@@ -28,14 +27,6 @@ unfolding clearedFrom padded
 cleared-padded k l h = ap (λ (n : ℕ). take k l ++ zeroes (length l - n)) (sym (length-take-le k l h))
 
 -- ---- the corners are copied
-
-drop-pair : (v : List Float) (i : ℕ) → 2 * i + 1 < length v → drop (2 * i) v ≡ point v i .x ∷ point v i .y ∷ drop (2 * (i + 1)) v
-unfolding point
-drop-pair v i h =
-    let d : drop (2 * i) v ≡ getD v (2 * i) nan ∷ drop (2 * i + 1) v = rw (add-one, drop-cons v (2 * i) nan (omega arith)) in
-    let d₁ : drop (2 * i + 1) v ≡ getD v (2 * i + 1) nan ∷ drop (suc (2 * i + 1)) v = drop-cons v (2 * i + 1) nan h in
-    let e : suc (2 * i + 1) ≡ 2 * (i + 1) = omega arith in
-    d ∙ ap (λ (l : List Float). getD v (2 * i) nan ∷ l) (d₁ ∙ ap (λ (j : ℕ). getD v (2 * i + 1) nan ∷ drop j v) e)
 
 reversed-short : (l : List Float) → length l ≤ 1 → reversed l ≡ []
 unfolding reversed
@@ -62,7 +53,7 @@ length-swapped (x ∷ []) = refl
 length-swapped (x ∷ y ∷ l) = omega (arith, length-swapped l)
 
 -- a corner more at the front of a slice, of which the rest is still that of b₀
-module _ (o' : List Float) (i : ℕ) (p : Point) (b₀ b a o : List Float) (front : take (2 * i) b ≡ o) (rest : drop (2 * i) b ≡ drop (2 * i) b₀) (w : Wrote i p b a) where
+module _ (o' : List Float) (i : ℕ) (p : Point) (b₀ b a o : List Float) (front : take (2 * i) b ≡ o) (rest : drop (2 * i) b ≡ drop (2 * i) b₀) (w : WroteCorner i p b a) where
   front-next : o ++ (p .x ∷ p .y ∷ []) ≡ o' → take (2 * (i + 1)) a ≡ o'
   front-next e = w .front ∙ ap (λ (l : List Float). l ++ (p .x ∷ p .y ∷ [])) front ∙ e
 
@@ -102,7 +93,7 @@ reversed-more v i h =
     ∙ sym (ap (λ (k : ℕ). reversed (drop (2 * k) v)) e ∙ ap reversed (drop-pair v j (omega arith)))
 
 pub reversing-next : (v : List Float) (i : ℕ) (p : Point) (b₀ b a : List Float) → i < length v / 2 → p ≡ point v (length v / 2 - 1 - i) → length a ≡ length b
-    → Reversing v i b₀ b → Wrote i p b a → Reversing v (i + 1) b₀ a
+    → Reversing v i b₀ b → WroteCorner i p b a → Reversing v (i + 1) b₀ a
 reversing-next v i p b₀ b a h hp hl r w =
     record {
       long = hl ∙ r .long;
@@ -127,7 +118,7 @@ pub swapping-start : (v b : List Float) → Swapping v 0 b b
 swapping-start v b = record { long = refl; front = refl; rest = refl }
 
 pub swapping-next : (v : List Float) (i : ℕ) (p q : Point) (b₀ b a : List Float) → i < length v / 2 → q ≡ point v i → p .x ≡ q .y → p .y ≡ q .x → length a ≡ length b
-    → Swapping v i b₀ b → Wrote i p b a → Swapping v (i + 1) b₀ a
+    → Swapping v i b₀ b → WroteCorner i p b a → Swapping v (i + 1) b₀ a
 unfolding swapped
 swapping-next v i p q b₀ b a h hq hx hy hl r w =
     let e : swapped (drop (2 * i) v) ≡ point v i .y ∷ point v i .x ∷ swapped (drop (2 * (i + 1)) v) = ap swapped (drop-pair v i (omega arith)) in
@@ -171,13 +162,13 @@ module _ (v : List Float) (n : ℕ) (o : List Float) (x : Float) (hn : 2 * n ≡
   area = hx ∙ ap signedArea (take-padded (cleanPolygon v) 1024 n o hn ho)
 
   pub ccw-kept : lt x (ofBits binary64 0) ≡ false → (2 * n ≡ length (ccwPolygon v)) × (o ≡ padded (ccwPolygon v) 1024)
-  unfolding ccwPolygon pickCorners
+  unfolding ccwPolygon
   ccw-kept h = rw (← area, h) (hn, ho)
 
-  turned : (a : List Float) → Copied (reversed (take (2 * n) o)) (length (take (2 * n) o) / 2) o a
+  reversed-padded : (a : List Float) → Copied (reversed (take (2 * n) o)) (length (take (2 * n) o) / 2) o a
       → (2 * n ≡ length (reversed (cleanPolygon v))) × (a ≡ padded (reversed (cleanPolygon v)) 1024)
   unfolding padded
-  turned a k =
+  reversed-padded a k =
       let l = cleanPolygon v in
       let e : take (2 * n) o ≡ l = take-padded l 1024 n o hn ho in
       let q : length (reversed l) ≡ length l = omega (arith, length-reversed l) in (
@@ -190,10 +181,10 @@ module _ (v : List Float) (n : ℕ) (o : List Float) (x : Float) (hn : 2 * n ≡
             ∙ ap (λ (j : ℕ). reversed l ++ zeroes (1024 - j)) (sym q),
       )
 
-  pub ccw-turned : (a : List Float) → lt x (ofBits binary64 0) ≡ true → Copied (reversed (take (2 * n) o)) (length (take (2 * n) o) / 2) o a
+  pub ccw-reversed : (a : List Float) → lt x (ofBits binary64 0) ≡ true → Copied (reversed (take (2 * n) o)) (length (take (2 * n) o) / 2) o a
       → (2 * n ≡ length (ccwPolygon v)) × (a ≡ padded (ccwPolygon v) 1024)
-  unfolding ccwPolygon pickCorners
-  ccw-turned a h k = rw (← area, h) (turned a k)
+  unfolding ccwPolygon
+  ccw-reversed a h k = rw (← area, h) (reversed-padded a k)
 
 -- `prepare`
 pub copied-short : (v : List Float) (m : ℕ) (b a : List Float) → Copied (swapped v) m b a → 2 * m ≤ length v
@@ -203,11 +194,11 @@ pub copied-take : (v : List Float) (m : ℕ) (b a : List Float) → Copied (swap
 copied-take v m b a k = ap (take (2 * m)) (k .slice) ∙ take-at (swapped v) (drop (length (swapped v)) b) (2 * m) (sym (k .count))
 
 pub prepared-swapped : (v p : List Float) (swap : Bool) → swap ≡ true → p ≡ swapped v → ccwPolygon p ≡ prepared swap v
-unfolding prepared pickCorners
+unfolding prepared
 prepared-swapped v p swap h e = rw (h, e)
 
 pub prepared-as-given : (v : List Float) (swap : Bool) → swap ≡ false → ccwPolygon v ≡ prepared swap v
-unfolding prepared pickCorners
+unfolding prepared
 prepared-as-given v swap h = rw h
 
 pub prepared-is : (l l' : List Float) (n : ℕ) (a : List Float) → l ≡ l' → (2 * n ≡ length l) × (a ≡ padded l 1024) → (2 * n ≡ length l') × (a ≡ padded l' 1024)

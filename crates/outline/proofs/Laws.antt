@@ -1,19 +1,19 @@
 -- Laws of `cleanPolygon` and `signedArea`, in the form that the code's loops go by. Assumes nothing.
 use Prim.Native.Nat.{ℕ, zero, suc, _+_, _-_, _*_, _/_, _%_, _<_, _≤_}
 use mathlib.Core.Path.{_≡_, refl, sym, ap, _∙_}
-use mathlib.Core.Bool.{Bool, true, false, _&&_}
+use mathlib.Core.Bool.{Bool, true, false, cond}
 use mathlib.Core.List.{List, [], _∷_, _++_, append-assoc}
 use native.Mathlib.Numerals.{add-one}
 use native.Mathlib.Nat.{not-suc-le-zero, le-of-suc-le-suc}
 use native.Mathlib.Omega.{arith}
-use lib.ListN.{length, getD, take, drop, set, length-take, length-drop, length-set, take-append-drop}
+use lib.ListN.{length, getD, take, drop, set, length-drop, length-set}
 use lib.Seq.{drop-cons, take-suc-set, drop-set-lt, getD-take, length-take-le, take-take, drop-drop}
 use lib.Ieee.{Float, nan, binary64, add, div, eq, ofBits}
 use borrow.Author.Tests.{lt-ltb}
-use Rattle.outline.specs.Corners.{point, same, padded}
-use Rattle.outline.specs.Clean.{endsIn, pushedUnless, pushed, gathered, pickCount, stay, cleanPolygon}
+use Rattle.outline.specs.Corners.{point, same}
+use Rattle.outline.specs.Clean.{endsIn, pushed, gathered, stay, cleanPolygon}
 use Rattle.outline.specs.Area.{wedge, sides, signedArea}
-use Rattle.outline.specs.Slices.{Wrote, Grew}
+use Rattle.outline.specs.Slices.{WroteCorner, Grew}
 use Rattle.outline.specs.declared.Point.{Point}
 
 module _ {A : Type 0} where
@@ -55,32 +55,36 @@ ends-same o m p hm h0 hq hb =
     rw (lt-ltb 0 (length (take (2 * m) o)) (omega arith), e, point-take o m (m - 1) (omega arith), ← hq) hb
 
 -- a corner is written
-pub put-wrote : (m : ℕ) (p : Point) (o : List Float) → 2 * m + 2 ≤ length o → Wrote m p o (set (set o (2 * m) (p .x)) (2 * m + 1) (p .y))
+pub put-wrote : (m : ℕ) (p : Point) (o : List Float) → 2 * m + 2 ≤ length o → WroteCorner m p o (set (set o (2 * m) (p .x)) (2 * m + 1) (p .y))
 put-wrote m p o h = record { front = two-front m o (p .x) (p .y) h; rest = two-rest m o (p .x) (p .y) h }
 
 -- a corner is pushed, or not
 module _ (m : ℕ) (p : Point) (b : List Float) where
   pub grew-not : {t : Bool} → t ≡ endsIn (take (2 * m) b) p → t ≡ true → Grew (pushed (take (2 * m) b) p) m m b
-  unfolding pushed pushedUnless
+  unfolding pushed
   grew-not e h =
       let q : endsIn (take (2 * m) b) p ≡ true = sym e ∙ h in
       record { front = rw q; grows = omega arith; most = omega arith }
 
-  pub grew : (a : List Float) {t : Bool} → t ≡ endsIn (take (2 * m) b) p → t ≡ false → Wrote m p b a → Grew (pushed (take (2 * m) b) p) m (m + 1) a
-  unfolding pushed pushedUnless
+  pub grew : (a : List Float) {t : Bool} → t ≡ endsIn (take (2 * m) b) p → t ≡ false → WroteCorner m p b a → Grew (pushed (take (2 * m) b) p) m (m + 1) a
+  unfolding pushed
   grew a e h w =
       let q : endsIn (take (2 * m) b) p ≡ false = sym e ∙ h in
       record { front = rw q (w .front); grows = omega arith; most = omega arith }
 
 -- ---- the corners are gathered
 
-pub gathered-next : (o v : List Float) (i : ℕ) → 2 * i + 1 < length v → gathered o (drop (2 * i) v) ≡ gathered (pushed o (point v i)) (drop (2 * (i + 1)) v)
-unfolding gathered point
-gathered-next o v i h =
+pub drop-pair : (v : List Float) (i : ℕ) → 2 * i + 1 < length v → drop (2 * i) v ≡ point v i .x ∷ point v i .y ∷ drop (2 * (i + 1)) v
+unfolding point
+drop-pair v i h =
     let d : drop (2 * i) v ≡ getD v (2 * i) nan ∷ drop (2 * i + 1) v = rw (add-one, drop-cons v (2 * i) nan (omega arith)) in
     let d₁ : drop (2 * i + 1) v ≡ getD v (2 * i + 1) nan ∷ drop (suc (2 * i + 1)) v = drop-cons v (2 * i + 1) nan h in
     let e : suc (2 * i + 1) ≡ 2 * (i + 1) = omega arith in
-    ap (gathered o) (d ∙ ap (λ (l : List Float). getD v (2 * i) nan ∷ l) (d₁ ∙ ap (λ (j : ℕ). getD v (2 * i + 1) nan ∷ drop j v) e))
+    d ∙ ap (λ (l : List Float). getD v (2 * i) nan ∷ l) (d₁ ∙ ap (λ (j : ℕ). getD v (2 * i + 1) nan ∷ drop j v) e)
+
+pub gathered-next : (o v : List Float) (i : ℕ) → 2 * i + 1 < length v → gathered o (drop (2 * i) v) ≡ gathered (pushed o (point v i)) (drop (2 * (i + 1)) v)
+unfolding gathered point
+gathered-next o v i h = ap (gathered o) (drop-pair v i h)
 
 gathered-short : (o l : List Float) → length l ≤ 1 → gathered o l ≡ o
 unfolding gathered
@@ -94,7 +98,7 @@ gathered-end o v i h = gathered-short o (drop (2 * i) v) (rw length-drop (omega 
 -- ---- last corners that equal the first go
 
 pub stay-next : (o : List Float) (k : ℕ) → 1 < k → same (point o 0) (point o (k - 1)) ≡ true → stay o k ≡ stay o (k - 1)
-unfolding stay pickCount
+unfolding stay
 stay-next o zero h e = absurd (not-suc-le-zero h)
 stay-next o (suc zero) h e = absurd (not-suc-le-zero (le-of-suc-le-suc h))
 stay-next o (suc (suc k)) h e =
@@ -103,7 +107,7 @@ stay-next o (suc (suc k)) h e =
     rw (s, q)
 
 pub stay-stop : (o : List Float) (k : ℕ) → 1 < k → same (point o 0) (point o (k - 1)) ≡ false → stay o k ≡ k
-unfolding stay pickCount
+unfolding stay
 stay-stop o zero h e = absurd (not-suc-le-zero h)
 stay-stop o (suc zero) h e = absurd (not-suc-le-zero (le-of-suc-le-suc h))
 stay-stop o (suc (suc k)) h e =
@@ -123,7 +127,7 @@ stay-take o m zero h = refl
 stay-take o m (suc zero) h = refl
 stay-take o m (suc (suc k)) h =
     rw (point-take o m 0 (omega arith), point-take o m (suc k) (omega arith))
-    (ap (λ (n : ℕ). pickCount (same (point o 0) (point o (suc k))) n (suc (suc k))) (stay-take o m (suc k) (omega arith)))
+    (ap (λ (n : ℕ). cond (same (point o 0) (point o (suc k))) n (suc (suc k))) (stay-take o m (suc k) (omega arith)))
 
 pub cleaned-is : (v : List Float) (m r : ℕ) (a : List Float) → 2 * m ≤ length a → take (2 * m) a ≡ gathered [] v → (r ≡ stay a m) × (r ≤ m) → take (2 * r) a ≡ cleanPolygon v
 unfolding cleanPolygon

@@ -6,7 +6,7 @@ use lib.ListN.{length, getD, replicate}
 use lib.Ieee.{Float, nan, binary64, eq, ofBits}
 use Rattle.outline.specs.declared.Point.{Point}
 
--- corner i: the Rust's v[i]
+-- the point of corner i: the Rust's v[i]
 unfoldable pub point : List Float → ℕ → Point
 point v i = record { x = getD v (2 * i) nan; y = getD v (2 * i + 1) nan }
 

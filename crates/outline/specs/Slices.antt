@@ -6,8 +6,8 @@ use lib.ListN.{length, take, drop}
 use lib.Ieee.{Float}
 use Rattle.outline.specs.declared.Point.{Point}
 
--- corner m was written, and it is p; the others are as before
-pub record Wrote (m : ℕ) (p : Point) (b a : List Float) : Type 0 where
+-- corner m was written, and its point is p; the others are as before
+pub record WroteCorner (m : ℕ) (p : Point) (b a : List Float) : Type 0 where
   pub front : take (2 * (m + 1)) a ≡ take (2 * m) b ++ (p .x ∷ p .y ∷ [])
   pub rest : drop (2 * (m + 1)) a ≡ drop (2 * (m + 1)) b
 

@@ -5,9 +5,9 @@ ghost use Prim.Native.Nat.{_+_, _*_, _/_, _<_, _≤_};
 ghost use lib.ListN.{length, take};
 ghost use Rattle.outline.specs.Corners.{point, same as same·, padded};
 ghost use Rattle.outline.specs.Clean.{endsIn, pushed, gathered, stay as stay·, cleanPolygon};
-ghost use Rattle.outline.specs.Slices.{Wrote, Grew};
+ghost use Rattle.outline.specs.Slices.{WroteCorner, Grew};
 
-// A corner.
+// A point of an outline's plane.
 pub struct Point {
     pub x: f64,
     pub y: f64,
@@ -19,7 +19,7 @@ pub struct Axes {
     pub v: usize,
 }
 
-// Corner i of a corner list.
+// The point of corner i: the Rust's v[i].
 pub fn corner(corners: &[f64], i: usize) -> Point
     requires { ⌜ 2 * i + 1 < length (now corners) ⌝ }
     ensures { λ r. ⌜ r ≡ point (now (corners .entry)) i ⌝ }
@@ -31,7 +31,7 @@ pub fn corner(corners: &[f64], i: usize) -> Point
     }
 }
 
-// Whether two corners are equal as floats go.
+// Whether two points are equal as floats go: the Rust's == on corners.
 pub fn same(p: Point, q: Point) -> bool
     ensures { λ r. ⌜ r ≡ same· p q ⌝ }
 {
@@ -54,17 +54,17 @@ fn ends_in(out: &[f64], m: usize, p: Point) -> bool
     same(corner(out, m - 1), p)
 }
 
-// Corner m of out becomes p.
+// The point of corner m of out becomes p.
 pub fn put_corner(out: &mut [f64], m: usize, p: Point)
     requires { ⌜ 2 * m + 2 ≤ length (now out) ⌝ }
-    ensures { λ _. ⌜ Wrote m p (now (out .entry)) (now (out .exit)) ⌝ }
+    ensures { λ _. ⌜ WroteCorner m p (now (out .entry)) (now (out .exit)) ⌝ }
 {
     let at = 2 * m;
     out[at] = p.x;
     out[at + 1] = p.y;
 }
 
-// The corner p after out's first m, unless the last of them equals it; and how many there are then.
+// The Rust's first loop, for one corner: p after out's first m, unless the last of them equals it; and how many there are then.
 fn push(out: &mut [f64], m: usize, p: Point) -> usize
     requires { ⌜ 2 * m + 2 ≤ length (now out) ⌝ }
     ensures { λ r. ⌜ Grew (pushed (take (2 * m) (now (out .entry))) p) m r (now (out .exit)) ⌝ }
@@ -76,7 +76,7 @@ fn push(out: &mut [f64], m: usize, p: Point) -> usize
     m + 1
 }
 
-// How many of out's first m corners are left once last corners that equal the first are popped.
+// The Rust's second loop: how many of out's first m corners are left once last corners that equal the first are popped.
 fn stay(out: &[f64], m: usize) -> usize
     requires { ⌜ 2 * m ≤ length (now out) ⌝ }
     ensures { λ r. ⌜ (r ≡ stay· (now (out .entry)) m) × (r ≤ m) ⌝ }
@@ -92,7 +92,7 @@ fn stay(out: &[f64], m: usize) -> usize
     k
 }
 
-// Each corner of v in its turn, equal neighbours once; and how many there are.
+// The Rust's first loop: each corner of v in its turn, equal neighbours once; and how many there are.
 fn gather(v: &[f64], out: &mut [f64]) -> usize
     requires { ⌜ length (now v) ≤ length (now out) ⌝ }
     ensures { λ r. ⌜ (take (2 * r) (now (out .exit)) ≡ gathered [] (now (v .entry))) × (2 * r ≤ length (now (out .entry))) ⌝ }
@@ -108,7 +108,8 @@ fn gather(v: &[f64], out: &mut [f64]) -> usize
     m
 }
 
-// The corners without equal neighbours and without last corners that equal the first: out holds them, then +0.0.
+// The Rust's clean_polygon, an inner function: its callers lend an out that is as long as v at least. The corners without equal neighbours and without last corners
+// that equal the first: out holds them, then +0.0; and how many there are.
 pub fn clean_polygon(v: &[f64], out: &mut [f64]) -> usize
     requires { ⌜ length (now v) ≤ length (now out) ⌝ }
     ensures { λ r. ⌜ (2 * r ≡ length (cleanPolygon (now (v .entry)))) × (now (out .exit) ≡ padded (cleanPolygon (now (v .entry))) (length (now (out .entry)))) ⌝ }

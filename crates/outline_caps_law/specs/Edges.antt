@@ -9,22 +9,22 @@ use native.Mathlib.Decide.{decLt}
 use native.Mathlib.Omega.{arith}
 use lib.ListN.{length, getD, List·getD-eq-default}
 use Rattle.mesh_balance_spec.specs.Soup.{Weight, rev}
-use Rattle.outline_ears.specs.Ears.{before, after}
+use Rattle.outline_ears.specs.Ears.{ip, inx}
 use Rattle.outline_triangulate.specs.Triangulate.{without, fans, fan}
 
--- of triangles, three numbers each: (a, b), (b, c) and (c, a)
+-- the weights of the edges of triangles, three numbers to a triangle: (a, b), (b, c) and (c, a)
 unfoldable pub edges : Weight ℕ → List ℕ → ℕ
 edges w [] = 0
 edges w (a ∷ []) = 0
 edges w (a ∷ b ∷ []) = 0
 edges w (a ∷ b ∷ c ∷ t) = w a b + (w b c + (w c a + edges w t))
 
--- from p along l, and then to z
+-- the weights of the edges from p along l, and then to z
 unfoldable pub chain : Weight ℕ → ℕ → ℕ → List ℕ → ℕ
 chain w z p [] = w p z
 chain w z p (q ∷ l) = w p q + chain w z q l
 
--- around l
+-- the weights of the edges around l
 unfoldable pub cycle : Weight ℕ → List ℕ → ℕ
 unfolding chain
 cycle w [] = 0
@@ -47,7 +47,7 @@ last-at : (p : ℕ) (l : List ℕ) → getD (p ∷ l) (length l) 0 ≡ last p l
 last-at p [] = refl
 last-at p (q ∷ l) = last-at q l
 
--- at place j of the chain
+-- at index j of the chain
 chain-cut : (w : Weight ℕ) (z p : ℕ) (l : List ℕ) (j : ℕ) → j < length l
     → chain w z p l + w (getD (p ∷ l) j 0) (getD l (suc j) z)
     ≡ chain w z p (without j l) + (w (getD (p ∷ l) j 0) (getD l j 0) + w (getD l j 0) (getD l (suc j) z))
@@ -57,52 +57,52 @@ chain-cut w z p (c ∷ []) zero h = omega arith
 chain-cut w z p (c ∷ q ∷ l) zero h = omega arith
 chain-cut w z p (c ∷ l) (suc j) h = omega (arith, chain-cut w z c l j (le-of-suc-le-suc h))
 
--- the neighbours of a place
+-- the neighbours of an index
 getD-other : (l : List ℕ) (i d d' : ℕ) → i < length l → getD l i d ≡ getD l i d'
 getD-other [] i d d' h = absurd (not-suc-le-zero h)
 getD-other (a ∷ l) zero d d' h = refl
 getD-other (a ∷ l) (suc i) d d' h = getD-other l i d d' (le-of-suc-le-suc h)
 
-before-first : (a b : ℕ) (l : List ℕ) → before (a ∷ b ∷ l) 0 ≡ last b l
-unfolding before
-before-first a b l =
+ip-first : (a b : ℕ) (l : List ℕ) → ip (a ∷ b ∷ l) 0 ≡ last b l
+unfolding ip
+ip-first a b l =
     let i : (0 + suc (suc (length l)) - 1) % suc (suc (length l)) ≡ suc (length l) = ap (λ (j : ℕ). j % suc (suc (length l))) (omega arith) ∙ mod-eq-of-lt (omega arith) in
     ap (λ (j : ℕ). getD (a ∷ b ∷ l) j 0) i ∙ last-at b l
 
-after-first : (a b : ℕ) (l : List ℕ) → after (a ∷ b ∷ l) 0 ≡ b
-unfolding after
-after-first a b l =
+inx-first : (a b : ℕ) (l : List ℕ) → inx (a ∷ b ∷ l) 0 ≡ b
+unfolding inx
+inx-first a b l =
     let i : (0 + 1) % suc (suc (length l)) ≡ 1 = mod-eq-of-lt (omega arith) in
     ap (λ (j : ℕ). getD (a ∷ b ∷ l) j 0) i
 
-before-later : (a : ℕ) (l : List ℕ) (j : ℕ) → j < length l → before (a ∷ l) (suc j) ≡ getD (a ∷ l) j 0
-unfolding before
-before-later a l j h =
+ip-later : (a : ℕ) (l : List ℕ) (j : ℕ) → j < length l → ip (a ∷ l) (suc j) ≡ getD (a ∷ l) j 0
+unfolding ip
+ip-later a l j h =
     let i : (suc j + suc (length l) - 1) % suc (length l) ≡ j =
     ap (λ (n : ℕ). n % suc (length l)) (omega arith) ∙ add-mod-right j (suc (length l)) ∙ mod-eq-of-lt (omega arith) in
     ap (λ (n : ℕ). getD (a ∷ l) n 0) i
 
-after-by : (a : ℕ) (l : List ℕ) (j : ℕ) → j < length l → Dec (suc j < length l) → after (a ∷ l) (suc j) ≡ getD l (suc j) a
-unfolding after
-after-by a l j h (yes p) =
+inx-by : (a : ℕ) (l : List ℕ) (j : ℕ) → j < length l → Dec (suc j < length l) → inx (a ∷ l) (suc j) ≡ getD l (suc j) a
+unfolding inx
+inx-by a l j h (yes p) =
     let i : (suc j + 1) % suc (length l) ≡ suc (suc j) = ap (λ (n : ℕ). n % suc (length l)) (add-one (suc j)) ∙ mod-eq-of-lt (omega arith) in
     ap (λ (n : ℕ). getD (a ∷ l) n 0) i ∙ getD-other l (suc j) 0 a p
-after-by a l j h (no p) =
+inx-by a l j h (no p) =
     let e : suc j + 1 ≡ suc (length l) = omega (arith, p) in
     let i : (suc j + 1) % suc (length l) ≡ 0 = ap (λ (n : ℕ). n % suc (length l)) e ∙ mod-self (suc (length l)) in
     ap (λ (n : ℕ). getD (a ∷ l) n 0) i ∙ sym (List·getD-eq-default l a {n = suc j} (omega (arith, p)))
 
-after-later : (a : ℕ) (l : List ℕ) (j : ℕ) → j < length l → after (a ∷ l) (suc j) ≡ getD l (suc j) a
-after-later a l j h = after-by a l j h (decLt (suc j) (length l))
+inx-later : (a : ℕ) (l : List ℕ) (j : ℕ) → j < length l → inx (a ∷ l) (suc j) ≡ getD l (suc j) a
+inx-later a l j h = inx-by a l j h (decLt (suc j) (length l))
 
 pub cycle-cut : (w : Weight ℕ) (l : List ℕ) (k : ℕ) → k < length l → 1 < length l
-    → cycle w l + w (before l k) (after l k) ≡ cycle w (without k l) + (w (before l k) (getD l k 0) + w (getD l k 0) (after l k))
+    → cycle w l + w (ip l k) (inx l k) ≡ cycle w (without k l) + (w (ip l k) (getD l k 0) + w (getD l k 0) (inx l k))
 unfolding cycle without
 cycle-cut w [] k h h2 = absurd (not-suc-le-zero h)
 cycle-cut w (a ∷ []) zero h h2 = absurd (not-suc-le-zero (le-of-suc-le-suc h2))
-cycle-cut w (a ∷ b ∷ l) zero h h2 = rw (before-first a b l, after-first a b l) (omega (arith, chain-to w a b b l))
+cycle-cut w (a ∷ b ∷ l) zero h h2 = rw (ip-first a b l, inx-first a b l) (omega (arith, chain-to w a b b l))
 cycle-cut w (a ∷ l) (suc j) h h2 =
-    rw (before-later a l j (le-of-suc-le-suc h), after-later a l j (le-of-suc-le-suc h)) (chain-cut w a a l j (le-of-suc-le-suc h))
+    rw (ip-later a l j (le-of-suc-le-suc h), inx-later a l j (le-of-suc-le-suc h)) (chain-cut w a a l j (le-of-suc-le-suc h))
 
 -- ---- triangles
 

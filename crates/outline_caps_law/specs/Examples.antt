@@ -1,15 +1,14 @@
 -- docs/SCOPE.md's figures on clipping, by computation. Assumes nothing.
-use Prim.Native.Nat.{ℕ, zero, suc, _+_, _-_, _*_}
 use mathlib.Core.Path.{_≡_, refl}
-use mathlib.Core.Bool.{true, false}
-use mathlib.Core.List.{List, [], _∷_}
-use lib.IntN.{pos, negsuc}
-use lib.Ieee.{Float, nan, fin, binary64, sub, mul, neg, add, sum, round, size, span, climb, units, odd, lt, le, eq, isNan, ofBits, ofFields}
+use mathlib.Core.Bool.{false}
+use mathlib.Core.List.{[], _∷_}
+use lib.IntN.{pos}
+use lib.Ieee.{Float, fin, sub, mul, neg, add, sum, round, size, span, climb, units, odd, lt, le, eq, isNan, ofBits, ofFields}
 use lib.Count.{trailingZeros}
 use Rattle.ieee.specs.MinMax.{absolute, maximum}
 use Rattle.outline.specs.Corners.{point, same}
-use Rattle.outline_ears.specs.Ears.{cross, largest, scale, tolerance, within, blocks, any, blocked, before, after, earAt, turning, isEar, isFlat, pickFound, seek, firstEar, firstFlat}
-use Rattle.outline_triangulate.specs.Triangulate.{State, without, clipped, dropped, fans, fan, fanned, byFound, pass, pickState, passes, finished, counting, start, triangulated, triangulatePolygon}
+use Rattle.outline_ears.specs.Ears.{cross, largest, scale, tolerance, inTriangle, blocks, any, blocked, ip, inx, earAt, crossAt, isEar, isFlat, seek, firstEar, firstFlat}
+use Rattle.outline_triangulate.specs.Triangulate.{without, clipped, dropped, fans, fan, fanned, byFound, pass, passes, finished, counting, start, triangulated, triangulatePolygon}
 
 abbrev n0 : Float
 n0 = fin false 0 (pos 0)
@@ -24,18 +23,18 @@ abbrev n3 : Float
 n3 = fin false 3 (pos 0)
 
 -- the square (0,0) (1,0) (1,1) (0,1): triangles 3 0 1 and 1 2 3, one removed
-pub square : triangulatePolygon (n0 ∷ n0 ∷ n1 ∷ n0 ∷ n1 ∷ n1 ∷ n0 ∷ n1 ∷ []) ≡ record { left = []; triangles = 3 ∷ 0 ∷ 1 ∷ 1 ∷ 2 ∷ 3 ∷ []; removed = 1 }
-unfolding triangulatePolygon triangulated pickState passes finished start pass byFound fanned dropped clipped without firstEar firstFlat isEar isFlat earAt turning blocked blocks point same eq within cross
-    tolerance scale maximum absolute largest isNan any seek pickFound counting before after fan fans sub mul neg add sum round size span climb units odd lt le ofBits ofFields trailingZeros
+pub square : triangulatePolygon (n0 ∷ n0 ∷ n1 ∷ n0 ∷ n1 ∷ n1 ∷ n0 ∷ n1 ∷ []) ≡ record { idx = []; triangles = 3 ∷ 0 ∷ 1 ∷ 1 ∷ 2 ∷ 3 ∷ []; removed = 1 }
+unfolding triangulatePolygon triangulated passes finished start pass byFound fanned dropped clipped without firstEar firstFlat isEar isFlat earAt crossAt blocked blocks point same eq inTriangle cross
+    tolerance scale maximum absolute largest isNan any seek counting ip inx fan fans sub mul neg add sum round size span climb units odd lt le ofBits ofFields trailingZeros
 square = refl
 
 -- (0,0) (1,0) (2,0) (3,0): no triangles, one removed
-pub line : triangulatePolygon (n0 ∷ n0 ∷ n1 ∷ n0 ∷ n2 ∷ n0 ∷ n3 ∷ n0 ∷ []) ≡ record { left = 1 ∷ 2 ∷ 3 ∷ []; triangles = []; removed = 1 }
-unfolding triangulatePolygon triangulated pickState passes finished start pass byFound fanned dropped clipped without firstEar firstFlat isEar isFlat earAt turning blocked blocks point same eq within cross
-    tolerance scale maximum absolute largest isNan any seek pickFound counting before after fan fans sub mul neg add sum round size span climb units odd lt le ofBits ofFields trailingZeros
+pub line : triangulatePolygon (n0 ∷ n0 ∷ n1 ∷ n0 ∷ n2 ∷ n0 ∷ n3 ∷ n0 ∷ []) ≡ record { idx = 1 ∷ 2 ∷ 3 ∷ []; triangles = []; removed = 1 }
+unfolding triangulatePolygon triangulated passes finished start pass byFound fanned dropped clipped without firstEar firstFlat isEar isFlat earAt crossAt blocked blocks point same eq inTriangle cross
+    tolerance scale maximum absolute largest isNan any seek counting ip inx fan fans sub mul neg add sum round size span climb units odd lt le ofBits ofFields trailingZeros
 line = refl
 
 -- two corners: none
-pub two : (a b c d : Float) → triangulatePolygon (a ∷ b ∷ c ∷ d ∷ []) ≡ record { left = []; triangles = []; removed = 0 }
-unfolding triangulatePolygon triangulated pickState
+pub two : (a b c d : Float) → triangulatePolygon (a ∷ b ∷ c ∷ d ∷ []) ≡ record { idx = []; triangles = []; removed = 0 }
+unfolding triangulatePolygon triangulated
 two a b c d = refl

@@ -1,2 +1,2 @@
 -- What the contract of `outline_clip` cites.
-pub mod Outcome
+pub mod Clip

@@ -3,7 +3,7 @@ ghost use mathlib.Core.Path.{_≡_};
 ghost use mathlib.Core.List.{_++_};
 ghost use Prim.Native.Nat.{ℕ, _≤_};
 ghost use lib.ListN.{length, take, drop, replicate};
-ghost use Rattle.outline_clip.specs.Outcome.{refusedBy, clipOutline, outcomeOf};
+ghost use Rattle.outline_clip.specs.Clip.{clipRefused, clipOutline, outcomeOf};
 use refusal::Refusal;
 
 // What clipping an outline by itself answers.
@@ -27,7 +27,7 @@ fn copy(out: &mut [u32], from: &[u32], n: usize)
 
 // A refusal, with counts 0.
 fn refused(why: Refusal) -> Clipped
-    ensures { λ r. ⌜ ((m : ℕ) → outcomeOf r (replicate m 0) ≡ refusedBy why m) ⌝ }
+    ensures { λ r. ⌜ ((m : ℕ) → outcomeOf r (replicate m 0) ≡ clipRefused why m) ⌝ }
 {
     Clipped {
         refusal: why,

@@ -1,8 +1,8 @@
 -- Laws of the searches, in the form that the code's loops go by. Assumes nothing.
-use Prim.Native.Nat.{ℕ, zero, suc, _+_, _-_, _*_, _%_, _<_, _≤_}
+use Prim.Native.Nat.{ℕ, zero, suc, _+_, _-_, _%_, _<_, _≤_}
 use mathlib.Core.Path.{_≡_, refl, sym, ap, _∙_}
-use mathlib.Core.Bool.{Bool, true, false, not, _&&_, _||_, and-true, and-false}
-use mathlib.Core.List.{List, [], _∷_}
+use mathlib.Core.Bool.{Bool, true, false, cond, not, _&&_, _||_, and-true, and-false}
+use mathlib.Core.List.{List}
 use native.Mathlib.Numerals.{add-one}
 use native.Mathlib.Nat.{mod-lt, sub-zero}
 use native.Mathlib.Omega.{arith}
@@ -14,13 +14,13 @@ use borrow.Author.Tests.{eq-eqb, ne-eqb}
 use Rattle.ieee.specs.MinMax.{absolute, maximum}
 use Rattle.outline.specs.declared.Point.{Point}
 use Rattle.outline.specs.Corners.{point, same}
-use Rattle.outline_ears.specs.Ears.{cross, largest, within, blocks, any, blocked, before, after, earAt, turning, isEar, isFlat, pickFound, seek, firstEar, firstFlat}
+use Rattle.outline_ears.specs.Ears.{cross, largest, inTriangle, blocks, any, blocked, ip, inx, earAt, crossAt, isEar, isFlat, seek, firstEar, firstFlat}
 use Rattle.outline_ears.specs.Inside.{Inside}
 use Rattle.outline_ears.specs.declared.Ear.{Ear}
 use Rattle.outline_ears.specs.declared.Found.{Found}
 use Rattle.outline_ears.specs.declared.Found.the-variants.{At, Nothing}
 
--- ---- the largest coordinate
+-- ---- the largest absolute value of a coordinate
 
 pub largest-next : (m : Float) (v : List Float) (i : ℕ) → i < length v → largest m (drop i v) ≡ largest (maximum m (absolute (getD v i nan))) (drop (i + 1) v)
 unfolding largest
@@ -30,7 +30,7 @@ pub largest-end : (m : Float) (v : List Float) (i : ℕ) → length v ≤ i → 
 unfolding largest
 largest-end m v i h = rw (drop-of-length-le v {i = i} h)
 
--- ---- a test at any corner that remains
+-- ---- a test of any corner that remains
 
 any-next : (p : ℕ → Bool) (l : List ℕ) (i : ℕ) → i < length l → any p (drop i l) ≡ (p (getD l i 0) || any p (drop (i + 1) l))
 unfolding any
@@ -44,9 +44,9 @@ pub blocked-is : (v : List Float) (e : Float) (t : Ear) (l : List ℕ) → any (
 unfolding blocked
 blocked-is v e t l = refl
 
--- ---- the first place that passes, among those below m
+-- ---- the first index that passes, among those below m
 
-seek-next : (p : ℕ → Bool) (m k : ℕ) → k < m → seek p (m - k) k ≡ pickFound (p k) (At k) (seek p (m - (k + 1)) (k + 1))
+seek-next : (p : ℕ → Bool) (m k : ℕ) → k < m → seek p (m - k) k ≡ cond (p k) (At k) (seek p (m - (k + 1)) (k + 1))
 unfolding seek
 seek-next p m k h =
     let e : m - k ≡ suc (m - (k + 1)) = omega arith in
@@ -58,19 +58,16 @@ seek-end p m k h =
     let e : m - k ≡ 0 = omega arith in
     rw e
 
--- place k passes, or it does not and the search goes on
+-- index k passes, or it does not and the search goes on
 module _ (p : ℕ → Bool) (m k : ℕ) (h : k < m) where
   pub seek-here : p k ≡ true → seek p (m - k) k ≡ At k
-  unfolding pickFound
   seek-here e = seek-next p m k h ∙ rw e
 
   pub seek-on : p k ≡ false → seek p (m - (k + 1)) (k + 1) ≡ seek p (m - k) k
-  unfolding pickFound
   seek-on e = sym (seek-next p m k h ∙ rw e)
 
--- a place that is found is one of those that were searched
-seek-by : (d k j : ℕ) (t : Bool) (r : Found) → (r ≡ At j → j < suc k + d) → pickFound t (At k) r ≡ At j → j < k + suc d
-unfolding pickFound
+-- an index that is found is one of those that were searched
+seek-by : (d k j : ℕ) (t : Bool) (r : Found) → (r ≡ At j → j < suc k + d) → cond t (At k) r ≡ At j → j < k + suc d
 seek-by d k j true r h e = let z : k ≡ j = cc in omega arith
 seek-by d k j false r h e = omega (arith, h e)
 
@@ -87,23 +84,23 @@ none-of true false = refl
 none-of false b = refl
 
 module _ (e : Float) (a b c p : Point) where
-  pub within-third : {x y z : Float} → z ≡ cross c a p → y ≡ cross b c p → x ≡ cross a b p → le (neg e) z ≡ true → le (neg e) y ≡ true → le (neg e) x ≡ within e a b c p
-  unfolding within
-  within-third ez ey ex hz hy = rw (← ex, ← ey, ← ez, hz, hy) (sym (and-true _))
+  pub inTriangle-third : {x y z : Float} → z ≡ cross c a p → y ≡ cross b c p → x ≡ cross a b p → le (neg e) z ≡ true → le (neg e) y ≡ true → le (neg e) x ≡ inTriangle e a b c p
+  unfolding inTriangle
+  inTriangle-third ez ey ex hz hy = rw (← ex, ← ey, ← ez, hz, hy) (sym (and-true _))
 
-  pub within-second : {y z : Float} → z ≡ cross c a p → y ≡ cross b c p → le (neg e) z ≡ true → le (neg e) y ≡ false → false ≡ within e a b c p
-  unfolding within
-  within-second ez ey hz hy = rw (← ey, ← ez, hz, hy) (sym (and-false (le (neg e) (cross a b p))))
+  pub inTriangle-second : {y z : Float} → z ≡ cross c a p → y ≡ cross b c p → le (neg e) z ≡ true → le (neg e) y ≡ false → false ≡ inTriangle e a b c p
+  unfolding inTriangle
+  inTriangle-second ez ey hz hy = rw (← ey, ← ez, hz, hy) (sym (and-false (le (neg e) (cross a b p))))
 
-  pub within-first : {z : Float} → z ≡ cross c a p → le (neg e) z ≡ false → false ≡ within e a b c p
-  unfolding within
-  within-first ez hz = rw (← ez, hz) (none-of (le (neg e) (cross a b p)) (le (neg e) (cross b c p)))
+  pub inTriangle-first : {z : Float} → z ≡ cross c a p → le (neg e) z ≡ false → false ≡ inTriangle e a b c p
+  unfolding inTriangle
+  inTriangle-first ez hz = rw (← ez, hz) (none-of (le (neg e) (cross a b p)) (le (neg e) (cross b c p)))
 
 -- ---- a test of a corner, which the code has read as p
 
 module _ (v : List Float) (o : ℕ) {p : Point} (hp : p ≡ point v o) {r u : Bool} where
-  pub within-at : (e : Float) (a b c : Point) → r ≡ within e a b c p → r ≡ u → within e a b c (point v o) ≡ u
-  within-at e a b c hr hu = ap (within e a b c) (sym hp) ∙ (sym hr ∙ hu)
+  pub inTriangle-at : (e : Float) (a b c : Point) → r ≡ inTriangle e a b c p → r ≡ u → inTriangle e a b c (point v o) ≡ u
+  inTriangle-at e a b c hr hu = ap (inTriangle e a b c) (sym hp) ∙ (sym hr ∙ hu)
 
   pub same-at : (a : Point) → r ≡ same p a → r ≡ u → same (point v o) a ≡ u
   same-at a hr hu = ap (λ (q : Point). same q a) (sym hp) ∙ (sym hr ∙ hu)
@@ -111,97 +108,97 @@ module _ (v : List Float) (o : ℕ) {p : Point} (hp : p ≡ point v o) {r u : Bo
 -- ---- a corner that blocks an ear
 
 module _ (v : List Float) (e : Float) (t : Ear) (o : ℕ) where
-  pub blocks-outside : within e (t .a) (t .b) (t .c) (point v o) ≡ false → false ≡ blocks v e t o
+  pub blocks-outside : inTriangle e (t .a) (t .b) (t .c) (point v o) ≡ false → false ≡ blocks v e t o
   unfolding blocks
   blocks-outside h =
       rw h
-      (none-of (not (eqb o (t .before) || (eqb o (t .at) || eqb o (t .after)))) (not (same (point v o) (t .a) || (same (point v o) (t .b) || same (point v o) (t .c)))))
+      (none-of (not (eqb o (t .ip) || (eqb o (t .ic) || eqb o (t .inx)))) (not (same (point v o) (t .a) || (same (point v o) (t .b) || same (point v o) (t .c)))))
 
-  pub blocks-before : o ≡ t .before → false ≡ blocks v e t o
+  pub blocks-ip : o ≡ t .ip → false ≡ blocks v e t o
   unfolding blocks
-  blocks-before h = rw (eq-eqb o (t .before) h)
+  blocks-ip h = rw (eq-eqb o (t .ip) h)
 
-  pub blocks-at : (o ≡ t .before → ⊥) → o ≡ t .at → false ≡ blocks v e t o
+  pub blocks-ic : (o ≡ t .ip → ⊥) → o ≡ t .ic → false ≡ blocks v e t o
   unfolding blocks
-  blocks-at ni h = rw (ne-eqb o (t .before) ni, eq-eqb o (t .at) h)
+  blocks-ic ni h = rw (ne-eqb o (t .ip) ni, eq-eqb o (t .ic) h)
 
-  module _ (ni : o ≡ t .before → ⊥) (nj : o ≡ t .at → ⊥) where
-    pub blocks-after : o ≡ t .after → false ≡ blocks v e t o
+  module _ (ni : o ≡ t .ip → ⊥) (nj : o ≡ t .ic → ⊥) where
+    pub blocks-inx : o ≡ t .inx → false ≡ blocks v e t o
     unfolding blocks
-    blocks-after h = rw (ne-eqb o (t .before) ni, ne-eqb o (t .at) nj, eq-eqb o (t .after) h)
+    blocks-inx h = rw (ne-eqb o (t .ip) ni, ne-eqb o (t .ic) nj, eq-eqb o (t .inx) h)
 
-    module _ (nk : o ≡ t .after → ⊥) where
+    module _ (nk : o ≡ t .inx → ⊥) where
       pub blocks-a : same (point v o) (t .a) ≡ true → false ≡ blocks v e t o
       unfolding blocks
-      blocks-a h = rw (ne-eqb o (t .before) ni, ne-eqb o (t .at) nj, ne-eqb o (t .after) nk, h)
+      blocks-a h = rw (ne-eqb o (t .ip) ni, ne-eqb o (t .ic) nj, ne-eqb o (t .inx) nk, h)
 
       pub blocks-b : same (point v o) (t .a) ≡ false → same (point v o) (t .b) ≡ true → false ≡ blocks v e t o
       unfolding blocks
-      blocks-b ha h = rw (ne-eqb o (t .before) ni, ne-eqb o (t .at) nj, ne-eqb o (t .after) nk, ha, h)
+      blocks-b ha h = rw (ne-eqb o (t .ip) ni, ne-eqb o (t .ic) nj, ne-eqb o (t .inx) nk, ha, h)
 
       pub blocks-c : same (point v o) (t .a) ≡ false → same (point v o) (t .b) ≡ false → same (point v o) (t .c) ≡ true → false ≡ blocks v e t o
       unfolding blocks
-      blocks-c ha hb h = rw (ne-eqb o (t .before) ni, ne-eqb o (t .at) nj, ne-eqb o (t .after) nk, ha, hb, h)
+      blocks-c ha hb h = rw (ne-eqb o (t .ip) ni, ne-eqb o (t .ic) nj, ne-eqb o (t .inx) nk, ha, hb, h)
 
       pub blocks-all : same (point v o) (t .a) ≡ false → same (point v o) (t .b) ≡ false → same (point v o) (t .c) ≡ false
-          → within e (t .a) (t .b) (t .c) (point v o) ≡ true → true ≡ blocks v e t o
+          → inTriangle e (t .a) (t .b) (t .c) (point v o) ≡ true → true ≡ blocks v e t o
       unfolding blocks
-      blocks-all ha hb hc h = rw (ne-eqb o (t .before) ni, ne-eqb o (t .at) nj, ne-eqb o (t .after) nk, ha, hb, hc, h)
+      blocks-all ha hb hc h = rw (ne-eqb o (t .ip) ni, ne-eqb o (t .ic) nj, ne-eqb o (t .inx) nk, ha, hb, hc, h)
 
--- ---- the corners that remain, in the code's array
+-- ---- the Rust's idx, in the code's array
 
-module _ (v : List Float) (at : List ℕ) (n : ℕ) (s : Inside v at n) where
-  pub left-length : length (take n at) ≡ n
-  left-length = length-take-le n at (omega (arith, s .long, s .small))
+module _ (v : List Float) (idx : List ℕ) (n : ℕ) (s : Inside v idx n) where
+  pub idx-length : length (take n idx) ≡ n
+  idx-length = length-take-le n idx (omega (arith, s .long, s .small))
 
-  pub left-at : (i : ℕ) → i < n → getD (take n at) i 0 ≡ getD at i 0
-  left-at i h = getD-take n at i 0 h
+  pub idx-at : (i : ℕ) → i < n → getD (take n idx) i 0 ≡ getD idx i 0
+  idx-at i h = getD-take n idx i 0 h
 
-  before-is : (k : ℕ) → k < n → before (take n at) k ≡ getD at ((k + n - 1) % n) 0
-  unfolding before
-  before-is k h = rw left-length (left-at ((k + n - 1) % n) (mod-lt _ (omega arith)))
+  ip-is : (k : ℕ) → k < n → ip (take n idx) k ≡ getD idx ((k + n - 1) % n) 0
+  unfolding ip
+  ip-is k h = rw idx-length (idx-at ((k + n - 1) % n) (mod-lt _ (omega arith)))
 
-  after-is : (k : ℕ) → k < n → after (take n at) k ≡ getD at ((k + 1) % n) 0
-  unfolding after
-  after-is k h = rw left-length (left-at ((k + 1) % n) (mod-lt _ (omega arith)))
+  inx-is : (k : ℕ) → k < n → inx (take n idx) k ≡ getD idx ((k + 1) % n) 0
+  unfolding inx
+  inx-is k h = rw idx-length (idx-at ((k + 1) % n) (mod-lt _ (omega arith)))
 
-  pub ear-is : (k : ℕ) → k < n → {a b c : Point} → a ≡ point v (getD at ((k + n - 1) % n) 0) → b ≡ point v (getD at k 0) → c ≡ point v (getD at ((k + 1) % n) 0)
-      → _≡_ {A = Ear} (record { before = getD at ((k + n - 1) % n) 0; at = getD at k 0; after = getD at ((k + 1) % n) 0; a = a; b = b; c = c }) (earAt v (take n at) k)
+  pub ear-is : (k : ℕ) → k < n → {a b c : Point} → a ≡ point v (getD idx ((k + n - 1) % n) 0) → b ≡ point v (getD idx k 0) → c ≡ point v (getD idx ((k + 1) % n) 0)
+      → _≡_ {A = Ear} (record { ip = getD idx ((k + n - 1) % n) 0; ic = getD idx k 0; inx = getD idx ((k + 1) % n) 0; a = a; b = b; c = c }) (earAt v (take n idx) k)
   unfolding earAt
-  ear-is k h ha hb hc = rw (before-is k h, left-at k h, after-is k h, ha, hb, hc)
+  ear-is k h ha hb hc = rw (ip-is k h, idx-at k h, inx-is k h, ha, hb, hc)
 
-  -- the test fails at place q, or it does not and the search goes on
+  -- the number at index q passes the test, or it does not and the search goes on
   module _ (p : ℕ → Bool) (q : ℕ) where
-    pub any-here : q < n → p (getD at q 0) ≡ true → true ≡ any p (drop q (take n at))
-    any-here h e = sym (any-next p (take n at) q (omega (arith, left-length)) ∙ rw (left-at q h, e))
+    pub any-here : q < n → p (getD idx q 0) ≡ true → true ≡ any p (drop q (take n idx))
+    any-here h e = sym (any-next p (take n idx) q (omega (arith, idx-length)) ∙ rw (idx-at q h, e))
 
-    pub any-on : q < n → p (getD at q 0) ≡ false → any p (drop (q + 1) (take n at)) ≡ any p (drop q (take n at))
-    any-on h e = sym (any-next p (take n at) q (omega (arith, left-length)) ∙ rw (left-at q h, e))
+    pub any-on : q < n → p (getD idx q 0) ≡ false → any p (drop (q + 1) (take n idx)) ≡ any p (drop q (take n idx))
+    any-on h e = sym (any-next p (take n idx) q (omega (arith, idx-length)) ∙ rw (idx-at q h, e))
 
-    pub any-none : n ≤ q → any p (drop q (take n at)) ≡ false
-    any-none h = any-end p (take n at) q (omega (arith, left-length))
+    pub any-none : n ≤ q → any p (drop q (take n idx)) ≡ false
+    any-none h = any-end p (take n idx) q (omega (arith, idx-length))
 
-  pub firstEar-is : (e : Float) → seek (isEar v e (take n at)) (n - 0) 0 ≡ firstEar v e (take n at)
+  pub firstEar-is : (e : Float) → seek (isEar v e (take n idx)) (n - 0) 0 ≡ firstEar v e (take n idx)
   unfolding firstEar
-  firstEar-is e = rw (left-length, sub-zero)
+  firstEar-is e = rw (idx-length, sub-zero)
 
-  pub firstFlat-is : (e : Float) → seek (isFlat v e (take n at)) (n - 0) 0 ≡ firstFlat v e (take n at)
+  pub firstFlat-is : (e : Float) → seek (isFlat v e (take n idx)) (n - 0) 0 ≡ firstFlat v e (take n idx)
   unfolding firstFlat
-  firstFlat-is e = rw (left-length, sub-zero)
+  firstFlat-is e = rw (idx-length, sub-zero)
 
 module _ (v : List Float) (l : List ℕ) (k : ℕ) (e : Float) (t : Ear) (ht : t ≡ earAt v l k) (x : Float) (hx : x ≡ cross (t .a) (t .b) (t .c)) where
-  turns : x ≡ turning v l k
-  unfolding turning
-  turns = hx ∙ rw ht
+  cross-is : x ≡ crossAt v l k
+  unfolding crossAt
+  cross-is = hx ∙ rw ht
 
   pub isEar-not : le x e ≡ true → false ≡ isEar v e l k
   unfolding isEar
-  isEar-not h = rw (← turns, h)
+  isEar-not h = rw (← cross-is, h)
 
   pub isEar-is : {b : Bool} → le x e ≡ false → b ≡ blocked v e t l → not b ≡ isEar v e l k
   unfolding isEar
-  isEar-is h hb = rw (hb, ← turns, h, ht)
+  isEar-is h hb = rw (hb, ← cross-is, h, ht)
 
   pub isFlat-is : {y : Float} → y ≡ absolute x → le y e ≡ isFlat v e l k
   unfolding isFlat
-  isFlat-is hy = rw (hy, turns)
+  isFlat-is hy = rw (hy, cross-is)

@@ -1,65 +1,67 @@
-// The searches of the ear clipper (src/tessellate.rs, triangulate_polygon). The first n numbers of at are the corners that remain.
+// The searches of the ear clipper (src/tessellate.rs, triangulate_polygon). v is the corner list, two floats to a corner. The Rust's idx, the numbers of the
+// corners that remain, is the first m numbers of the array idx.
 use outline::Point;
 ghost use mathlib.Core.Path.{_≡_};
 ghost use Prim.Native.Nat.{_+_, _*_, _<_};
 ghost use lib.ListN.{length, take};
 ghost use Rattle.outline.specs.Corners.{point};
-ghost use Rattle.outline_ears.specs.Ears.{cross as cross·, tolerance as tolerance·, within as within·, blocks as blocks·, blocked as blocked·};
-ghost use Rattle.outline_ears.specs.Ears.{earAt, turning as turning·, isEar, firstEar, firstFlat};
+ghost use Rattle.outline_ears.specs.Ears.{cross as cross·, tolerance as tolerance·, inTriangle, blocks as blocks·, blocked as blocked·};
+ghost use Rattle.outline_ears.specs.Ears.{earAt, isEar, firstEar, firstFlat};
 ghost use Rattle.outline_ears.specs.Inside.{Inside};
 
-// A place with its neighbours: their corner numbers, and where they stand.
+// The Rust's ip, ic and inx, the corner numbers at an index of idx and at the indices before and after it; and a, b and c, their points.
 pub struct Ear {
-    pub before: u32,
-    pub at: u32,
-    pub after: u32,
+    pub ip: u32,
+    pub ic: u32,
+    pub inx: u32,
     pub a: Point,
     pub b: Point,
     pub c: Point,
 }
 
-// What a search finds: a place among those that remain.
+// What a search finds: an index of idx.
 pub enum Found {
     At(usize),
     Nothing,
 }
 
-// Where corner o stands.
-pub fn place(corners: &[f64], o: u32) -> Point
-    requires { ⌜ 2 * o + 1 < length (now corners) ⌝ }
-    ensures { λ r. ⌜ r ≡ point (now (corners .entry)) o ⌝ }
+// The point of corner o: the Rust's v[o].
+pub fn point_of(v: &[f64], o: u32) -> Point
+    requires { ⌜ 2 * o + 1 < length (now v) ⌝ }
+    ensures { λ r. ⌜ r ≡ point (now (v .entry)) o ⌝ }
 {
-    outline::corner(corners, o as usize)
+    outline::corner(v, o as usize)
 }
 
-// Twice the area of the triangle a b c, above 0 where it runs counter-clockwise.
+// The Rust's closure cross, of the points a, b and c: above 0 where they run counter-clockwise.
 pub fn cross(a: Point, b: Point, c: Point) -> f64
     ensures { λ r. ⌜ r ≡ cross· a b c ⌝ }
 {
     (b.x - a.x) * (c.y - a.y) - (b.y - a.y) * (c.x - a.x)
 }
 
-// The Rust's eps: 1e-12 times the square of the largest coordinate, which counts as 1e-300 at least.
-pub fn tolerance(corners: &[f64]) -> f64
-    ensures { λ r. ⌜ r ≡ tolerance· (now (corners .entry)) ⌝ }
+// The Rust's eps: 1e-12 times the square of scale, the largest absolute value of a coordinate, 1e-300 at least.
+pub fn tolerance(v: &[f64]) -> f64
+    ensures { λ r. ⌜ r ≡ tolerance· (now (v .entry)) ⌝ }
 {
     let mut m = 0.0;
     let mut i = 0;
-    while i < corners.len() {
-        m = ieee::max(m, ieee::abs(corners[i]));
+    while i < v.len() {
+        m = ieee::max(m, ieee::abs(v[i]));
         i += 1;
     }
     let scale = ieee::max(m, 1e-300);
     1e-12 * scale * scale
 }
 
-// Whether p lies in the triangle a b c, or within e of it. Most corners lie beyond side c a, so that is asked first; the order does not change the answer.
-fn within(e: f64, a: Point, b: Point, c: Point, p: Point) -> bool
-    ensures { λ r. ⌜ r ≡ within· e a b c p ⌝ }
+// Whether each of cross(a, b, p), cross(b, c, p) and cross(c, a, p) is at least -eps. Most corners lie beyond the side from c to a, so that is asked first; the
+// order does not change the answer.
+fn in_triangle(eps: f64, a: Point, b: Point, c: Point, p: Point) -> bool
+    ensures { λ r. ⌜ r ≡ inTriangle eps a b c p ⌝ }
 {
-    if cross(c, a, p) >= -e {
-        if cross(b, c, p) >= -e {
-            return cross(a, b, p) >= -e;
+    if cross(c, a, p) >= -eps {
+        if cross(b, c, p) >= -eps {
+            return cross(a, b, p) >= -eps;
         }
         return false;
     }
@@ -67,21 +69,21 @@ fn within(e: f64, a: Point, b: Point, c: Point, p: Point) -> bool
 }
 
 // Whether corner o keeps t from being clipped. Most corners lie outside, so that is asked first; the order does not change the answer.
-fn blocks(corners: &[f64], e: f64, t: Ear, o: u32) -> bool
-    requires { ⌜ 2 * o + 1 < length (now corners) ⌝ }
-    ensures { λ r. ⌜ r ≡ blocks· (now (corners .entry)) e t o ⌝ }
+fn blocks(v: &[f64], eps: f64, t: Ear, o: u32) -> bool
+    requires { ⌜ 2 * o + 1 < length (now v) ⌝ }
+    ensures { λ r. ⌜ r ≡ blocks· (now (v .entry)) eps t o ⌝ }
 {
-    let p = place(corners, o);
-    if !within(e, t.a, t.b, t.c, p) {
+    let p = point_of(v, o);
+    if !in_triangle(eps, t.a, t.b, t.c, p) {
         return false;
     }
-    if o == t.before {
+    if o == t.ip {
         return false;
     }
-    if o == t.at {
+    if o == t.ic {
         return false;
     }
-    if o == t.after {
+    if o == t.inx {
         return false;
     }
     if outline::same(p, t.a) {
@@ -96,15 +98,15 @@ fn blocks(corners: &[f64], e: f64, t: Ear, o: u32) -> bool
     true
 }
 
-// Whether some corner that remains keeps t from being clipped.
-fn blocked(corners: &[f64], e: f64, t: Ear, at: &[u32; 512], n: usize) -> bool
-    requires { ⌜ Inside (now corners) (now at) n ⌝ }
-    ensures { λ r. ⌜ r ≡ blocked· (now (corners .entry)) e t (take n (now (at .entry))) ⌝ }
+// The Rust's blocked: whether some corner that remains keeps t from being clipped.
+fn blocked(v: &[f64], eps: f64, t: Ear, idx: &[u32; 512], m: usize) -> bool
+    requires { ⌜ Inside (now v) (now idx) m ⌝ }
+    ensures { λ r. ⌜ r ≡ blocked· (now (v .entry)) eps t (take m (now (idx .entry))) ⌝ }
 {
     let mut q = 0;
-    while q < n {
-        let o = at[q];
-        if blocks(corners, e, t, o) {
+    while q < m {
+        let o = idx[q];
+        if blocks(v, eps, t, o) {
             return true;
         }
         q += 1;
@@ -112,32 +114,32 @@ fn blocked(corners: &[f64], e: f64, t: Ear, at: &[u32; 512], n: usize) -> bool
     false
 }
 
-// Place k with its neighbours.
-pub fn ear_at(corners: &[f64], at: &[u32; 512], n: usize, k: usize) -> Ear
-    requires { ⌜ (k < n) × Inside (now corners) (now at) n ⌝ }
-    ensures { λ r. ⌜ r ≡ earAt (now (corners .entry)) (take n (now (at .entry))) k ⌝ }
+// The corner at index k of idx and its neighbours there.
+pub fn ear_at(v: &[f64], idx: &[u32; 512], m: usize, k: usize) -> Ear
+    requires { ⌜ (k < m) × Inside (now v) (now idx) m ⌝ }
+    ensures { λ r. ⌜ r ≡ earAt (now (v .entry)) (take m (now (idx .entry))) k ⌝ }
 {
-    let before = at[(k + n - 1) % n];
-    let here = at[k];
-    let after = at[(k + 1) % n];
+    let ip = idx[(k + m - 1) % m];
+    let ic = idx[k];
+    let inx = idx[(k + 1) % m];
     Ear {
-        before: before,
-        at: here,
-        after: after,
-        a: place(corners, before),
-        b: place(corners, here),
-        c: place(corners, after),
+        ip: ip,
+        ic: ic,
+        inx: inx,
+        a: point_of(v, ip),
+        b: point_of(v, ic),
+        c: point_of(v, inx),
     }
 }
 
-// The first place whose corner is an ear that no other corner blocks.
-pub fn first_ear(corners: &[f64], e: f64, at: &[u32; 512], n: usize) -> Found
-    requires { ⌜ Inside (now corners) (now at) n ⌝ }
-    ensures { λ r. ⌜ r ≡ firstEar (now (corners .entry)) e (take n (now (at .entry))) ⌝ }
+// The first index whose corner is an ear that no other corner blocks.
+pub fn first_ear(v: &[f64], eps: f64, idx: &[u32; 512], m: usize) -> Found
+    requires { ⌜ Inside (now v) (now idx) m ⌝ }
+    ensures { λ r. ⌜ r ≡ firstEar (now (v .entry)) eps (take m (now (idx .entry))) ⌝ }
 {
     let mut k = 0;
-    while k < n {
-        if is_ear(corners, e, at, n, k) {
+    while k < m {
+        if is_ear(v, eps, idx, m, k) {
             return Found::At(k);
         }
         k += 1;
@@ -145,30 +147,30 @@ pub fn first_ear(corners: &[f64], e: f64, at: &[u32; 512], n: usize) -> Found
     Found::Nothing
 }
 
-// Whether place k is an ear that no other corner blocks.
-fn is_ear(corners: &[f64], e: f64, at: &[u32; 512], n: usize, k: usize) -> bool
-    requires { ⌜ (k < n) × Inside (now corners) (now at) n ⌝ }
-    ensures { λ r. ⌜ r ≡ isEar (now (corners .entry)) e (take n (now (at .entry))) k ⌝ }
+// Whether the corner at index k is an ear that no other corner blocks. A cross that is NaN is not <= eps, so it counts as an ear's.
+fn is_ear(v: &[f64], eps: f64, idx: &[u32; 512], m: usize, k: usize) -> bool
+    requires { ⌜ (k < m) × Inside (now v) (now idx) m ⌝ }
+    ensures { λ r. ⌜ r ≡ isEar (now (v .entry)) eps (take m (now (idx .entry))) k ⌝ }
 {
-    let t = ear_at(corners, at, n, k);
-    if cross(t.a, t.b, t.c) <= e {
+    let t = ear_at(v, idx, m, k);
+    if cross(t.a, t.b, t.c) <= eps {
         return false;
     }
-    !blocked(corners, e, t, at, n)
+    !blocked(v, eps, t, idx, m)
 }
 
-// The first place whose corner is flat.
-pub fn first_flat(corners: &[f64], e: f64, at: &[u32; 512], n: usize) -> Found
-    requires { ⌜ Inside (now corners) (now at) n ⌝ }
-    ensures { λ r. ⌜ r ≡ firstFlat (now (corners .entry)) e (take n (now (at .entry))) ⌝ }
+// The first index whose corner is flat: the absolute value of its cross is at most eps.
+pub fn first_flat(v: &[f64], eps: f64, idx: &[u32; 512], m: usize) -> Found
+    requires { ⌜ Inside (now v) (now idx) m ⌝ }
+    ensures { λ r. ⌜ r ≡ firstFlat (now (v .entry)) eps (take m (now (idx .entry))) ⌝ }
 {
-    let mut j = 0;
-    while j < n {
-        let t = ear_at(corners, at, n, j);
-        if ieee::abs(cross(t.a, t.b, t.c)) <= e {
-            return Found::At(j);
+    let mut k = 0;
+    while k < m {
+        let t = ear_at(v, idx, m, k);
+        if ieee::abs(cross(t.a, t.b, t.c)) <= eps {
+            return Found::At(k);
         }
-        j += 1;
+        k += 1;
     }
     Found::Nothing
 }

@@ -10,148 +10,149 @@ use lib.Seq.{length-take-le}
 use lib.Ieee.{Float, lt}
 use borrow.Author.Tests.{eq-eqb, ne-eqb, lt-ltb, le-ltb}
 use Rattle.outline.specs.Corners.{point}
-use Rattle.outline_ears.specs.Ears.{cross, tolerance, before, after, earAt, isEar, isFlat, firstEar, firstFlat}
+use Rattle.outline.proofs.Laws.{drop-further}
+use Rattle.outline_ears.specs.Ears.{cross, tolerance, ip, inx, earAt, isEar, isFlat, firstEar, firstFlat}
 use Rattle.outline_ears.specs.Inside.{Inside}
 use Rattle.outline_ears.specs.declared.Ear.{Ear}
 use Rattle.outline_ears.specs.declared.Found.{Found}
 use Rattle.outline_ears.specs.declared.Found.the-variants.{At, Nothing}
-use Rattle.outline_ears.proofs.Laws.{left-length, left-at, seek-below}
-use Rattle.outline_triangulate.specs.Triangulate.{State, without, fan, counting, clipped, dropped, fanned, byFound, pass, passes, pickState, finished, start, triangulated, triangulatePolygon}
-use Rattle.outline_triangulate.specs.Slices.{held, stateOf, Room, Passing, Gives, Wrote}
+use Rattle.outline_ears.proofs.Laws.{idx-length, idx-at, seek-below}
+use Rattle.outline_triangulate.specs.Triangulate.{Clipping, without, fan, counting, clipped, dropped, fanned, byFound, pass, passes, finished, start, triangulated, triangulatePolygon}
+use Rattle.outline_triangulate.specs.Slices.{idxOf, clippingOf, Room, Passing, CutAs, WroteTriangles}
 use Rattle.outline_triangulate.specs.declared.Remaining.{Remaining}
 use Rattle.outline_triangulate.specs.declared.Cut.{Cut}
 use Rattle.outline_triangulate.specs.declared.Passed.{Passed}
 use Rattle.outline_triangulate.specs.declared.Passed.the-variants.{Without, Fanned}
-use Rattle.outline_triangulate.proofs.Writing.{without-inside, drop-more}
+use Rattle.outline_triangulate.proofs.Writing.{without-inside}
 
 -- ---- states
 
-pub state-eq : {l l' t t' : List ℕ} {r r' : ℕ} → l ≡ l' → t ≡ t' → r ≡ r'
-    → _≡_ {A = State} (record { left = l; triangles = t; removed = r }) (record { left = l'; triangles = t'; removed = r' })
-state-eq el et er = rw (el, et, er)
+pub clipping-eq : {l l' t t' : List ℕ} {r r' : ℕ} → l ≡ l' → t ≡ t' → r ≡ r'
+    → _≡_ {A = Clipping} (record { idx = l; triangles = t; removed = r }) (record { idx = l'; triangles = t'; removed = r' })
+clipping-eq el et er = rw (el, et, er)
 
 -- ---- a pass, the passes and the last triangle, by the definition
 
-module _ (v : List Float) (e : Float) (s : State) where
-  pub pass-ear : (k : ℕ) → firstEar v e (s .left) ≡ At k → clipped s k ≡ pass v e s
+module _ (v : List Float) (e : Float) (s : Clipping) where
+  pub pass-ear : (k : ℕ) → firstEar v e (s .idx) ≡ At k → clipped s k ≡ pass v e s
   unfolding pass byFound
   pass-ear k h = rw h
 
-  pub pass-flat : (k : ℕ) → firstEar v e (s .left) ≡ Nothing → firstFlat v e (s .left) ≡ At k → dropped s k ≡ pass v e s
+  pub pass-flat : (k : ℕ) → firstEar v e (s .idx) ≡ Nothing → firstFlat v e (s .idx) ≡ At k → dropped s k ≡ pass v e s
   unfolding pass byFound
   pass-flat k h h' = rw (h, h')
 
-  pub pass-fan : firstEar v e (s .left) ≡ Nothing → firstFlat v e (s .left) ≡ Nothing → fanned s ≡ pass v e s
+  pub pass-fan : firstEar v e (s .idx) ≡ Nothing → firstFlat v e (s .idx) ≡ Nothing → fanned s ≡ pass v e s
   unfolding pass byFound
   pass-fan h h' = rw (h, h')
 
-  pub passes-more : (f : ℕ) → 3 < length (s .left) → passes (suc f) v e s ≡ passes f v e (pass v e s)
-  unfolding passes pickState
-  passes-more f h = rw (lt-ltb 3 (length (s .left)) h)
+  pub passes-more : (f : ℕ) → 3 < length (s .idx) → passes (suc f) v e s ≡ passes f v e (pass v e s)
+  unfolding passes
+  passes-more f h = rw (lt-ltb 3 (length (s .idx)) h)
 
-  pub passes-done : (f : ℕ) → length (s .left) ≤ 3 → passes f v e s ≡ s
-  unfolding passes pickState
+  pub passes-done : (f : ℕ) → length (s .idx) ≤ 3 → passes f v e s ≡ s
+  unfolding passes
   passes-done zero h = refl
-  passes-done (suc f) h = rw (le-ltb 3 (length (s .left)) h)
+  passes-done (suc f) h = rw (le-ltb 3 (length (s .idx)) h)
 
   -- three corners are left, or fewer
-  module _ (x : Float) (hx : x ≡ cross (point v (getD (s .left) 0 0)) (point v (getD (s .left) 1 0)) (point v (getD (s .left) 2 0))) (h3 : length (s .left) ≡ 3) where
-    pub finished-triangle : lt e x ≡ true → finished v e s ≡ record { left = []; triangles = s .triangles ++ take 3 (s .left); removed = s .removed }
-    unfolding finished pickState
-    finished-triangle h = rw (← hx, eq-eqb (length (s .left)) 3 h3, h)
+  module _ (x : Float) (hx : x ≡ cross (point v (getD (s .idx) 0 0)) (point v (getD (s .idx) 1 0)) (point v (getD (s .idx) 2 0))) (h3 : length (s .idx) ≡ 3) where
+    pub finished-triangle : lt e x ≡ true → finished v e s ≡ record { idx = []; triangles = s .triangles ++ take 3 (s .idx); removed = s .removed }
+    unfolding finished
+    finished-triangle h = rw (← hx, eq-eqb (length (s .idx)) 3 h3, h)
 
     pub finished-flat : lt e x ≡ false → finished v e s ≡ s
-    unfolding finished pickState
-    finished-flat h = rw (← hx, eq-eqb (length (s .left)) 3 h3, h)
+    unfolding finished
+    finished-flat h = rw (← hx, eq-eqb (length (s .idx)) 3 h3, h)
 
-  pub finished-few : (length (s .left) ≡ 3 → ⊥) → finished v e s ≡ s
-  unfolding finished pickState
-  finished-few h = rw (ne-eqb (length (s .left)) 3 h)
+  pub finished-few : (length (s .idx) ≡ 3 → ⊥) → finished v e s ≡ s
+  unfolding finished
+  finished-few h = rw (ne-eqb (length (s .idx)) 3 h)
 
 -- ---- a pass of the code, by what the two searches answer
 
-module _ (v : List Float) (e : Float) (at : List ℕ) (n : ℕ) (s : Inside v at n) (k : ℕ) {f : Found} where
-  pub ear-below : f ≡ firstEar v e (take n at) → f ≡ At k → k < n
+module _ (v : List Float) (e : Float) (idx : List ℕ) (n : ℕ) (s : Inside v idx n) (k : ℕ) {f : Found} where
+  pub ear-below : f ≡ firstEar v e (take n idx) → f ≡ At k → k < n
   unfolding firstEar
-  ear-below h hk = omega (arith, seek-below (isEar v e (take n at)) (length (take n at)) 0 k (sym h ∙ hk), left-length v at n s)
+  ear-below h hk = omega (arith, seek-below (isEar v e (take n idx)) (length (take n idx)) 0 k (sym h ∙ hk), idx-length v idx n s)
 
-  pub flat-below : f ≡ firstFlat v e (take n at) → f ≡ At k → k < n
+  pub flat-below : f ≡ firstFlat v e (take n idx) → f ≡ At k → k < n
   unfolding firstFlat
-  flat-below h hk = omega (arith, seek-below (isFlat v e (take n at)) (length (take n at)) 0 k (sym h ∙ hk), left-length v at n s)
+  flat-below h hk = omega (arith, seek-below (isFlat v e (take n idx)) (length (take n idx)) 0 k (sym h ∙ hk), idx-length v idx n s)
 
-module _ (v : List Float) (e : Float) (at : List ℕ) (n : ℕ) (c : Cut) (b : List ℕ) (h3 : 3 < n) (s : Inside v at n) (m : Room n c b) {f : Found} (ear : f ≡ firstEar v e (take n at)) where
+module _ (v : List Float) (e : Float) (idx : List ℕ) (n : ℕ) (c : Cut) (b : List ℕ) (h3 : 3 < n) (s : Inside v idx n) (m : Room n c b) {f : Found} (ear : f ≡ firstEar v e (take n idx)) where
   -- an ear is clipped
-  pub clip-passing : (k : ℕ) (x : Ear) (a : List ℕ) → f ≡ At k → x ≡ earAt v (take n at) k → length a ≡ length b
-      → Wrote (c .triangles) (c .triangles + 1) (x .before ∷ x .at ∷ x .after ∷ []) b a
-      → Passing v e at n c b (Without k (record { triangles = c .triangles + 1; removed = c .removed + 1 })) a
+  pub clip-passing : (k : ℕ) (x : Ear) (a : List ℕ) → f ≡ At k → x ≡ earAt v (take n idx) k → length a ≡ length b
+      → WroteTriangles (c .triangles) (c .triangles + 1) (x .ip ∷ x .ic ∷ x .inx ∷ []) b a
+      → Passing v e idx n c b (Without k (record { triangles = c .triangles + 1; removed = c .removed + 1 })) a
   unfolding clipped earAt
   clip-passing k x a at-k hx hl p =
-      let h : k < n = ear-below v e at n s k ear at-k in
+      let h : k < n = ear-below v e idx n s k ear at-k in
       record {
         state =
-            state-eq refl (p .front ∙ ap (λ (y : Ear). take (3 * c .triangles) b ++ (y .before ∷ y .at ∷ y .after ∷ [])) hx) refl
-            ∙ pass-ear v e (stateOf (take n at) c b) k (sym ear ∙ at-k);
+            clipping-eq refl (p .front ∙ ap (λ (y : Ear). take (3 * c .triangles) b ++ (y .ip ∷ y .ic ∷ y .inx ∷ [])) hx) refl
+            ∙ pass-ear v e (clippingOf (take n idx) c b) k (sym ear ∙ at-k);
         rest = p .rest;
         grows = omega arith;
         room = record { room = omega (arith, m .room); few = omega (arith, m .few); short = omega (arith, m .short) };
-        place = h;
+        index = h;
       }
 
   -- a flat corner goes
-  pub drop-passing : (k : ℕ) {g : Found} → f ≡ Nothing → g ≡ firstFlat v e (take n at) → g ≡ At k
-      → Passing v e at n c b (Without k (record { triangles = c .triangles; removed = c .removed + 1 })) b
+  pub drop-passing : (k : ℕ) {g : Found} → f ≡ Nothing → g ≡ firstFlat v e (take n idx) → g ≡ At k
+      → Passing v e idx n c b (Without k (record { triangles = c .triangles; removed = c .removed + 1 })) b
   unfolding dropped
   drop-passing k none flat at-k =
-      let h : k < n = flat-below v e at n s k flat at-k in
+      let h : k < n = flat-below v e idx n s k flat at-k in
       record {
-        state = pass-flat v e (stateOf (take n at) c b) k (sym ear ∙ none) (sym flat ∙ at-k);
+        state = pass-flat v e (clippingOf (take n idx) c b) k (sym ear ∙ none) (sym flat ∙ at-k);
         rest = refl;
         grows = omega arith;
         room = record { room = omega (arith, m .room); few = omega (arith, m .few); short = m .short };
-        place = h;
+        index = h;
       }
 
   -- the rest is fanned
-  pub fan-passing : (t : ℕ) (a : List ℕ) {g : Found} → f ≡ Nothing → g ≡ firstFlat v e (take n at) → g ≡ Nothing → length a ≡ length b
-      → (t ≡ c .triangles + (n - 2)) × Wrote (c .triangles) t (fan (take n at)) b a → Passing v e at n c b (Fanned (record { triangles = t; removed = c .removed })) a
+  pub fan-passing : (t : ℕ) (a : List ℕ) {g : Found} → f ≡ Nothing → g ≡ firstFlat v e (take n idx) → g ≡ Nothing → length a ≡ length b
+      → (t ≡ c .triangles + (n - 2)) × WroteTriangles (c .triangles) t (fan (take n idx)) b a → Passing v e idx n c b (Fanned (record { triangles = t; removed = c .removed })) a
   unfolding fanned
   fan-passing t a none flat none' hl p =
       record {
-        state = state-eq refl (p .1 .front) refl ∙ pass-fan v e (stateOf (take n at) c b) (sym ear ∙ none) (sym flat ∙ none');
+        state = clipping-eq refl (p .1 .front) refl ∙ pass-fan v e (clippingOf (take n idx) c b) (sym ear ∙ none) (sym flat ∙ none');
         rest = p .1 .rest;
         grows = omega arith;
         room = record { room = omega (arith, m .room); few = omega (arith, m .few); short = omega (arith, m .short) };
-        place = tt;
+        index = tt;
       }
 
 -- what is known of an answer is known of the variant that it is
-pub passing-at : {v : List Float} {e : Float} {at : List ℕ} {n : ℕ} {c : Cut} {b a : List ℕ} {r r' : Passed} → r ≡ r' → Passing v e at n c b r a → Passing v e at n c b r' a
+pub passing-at : {v : List Float} {e : Float} {idx : List ℕ} {n : ℕ} {c : Cut} {b a : List ℕ} {r r' : Passed} → r ≡ r' → Passing v e idx n c b r a → Passing v e idx n c b r' a
 passing-at h p = rw h at p
 
 -- ---- a step of the loop: from w, c and the slice b to w', c' and a
 
 pub record Goes (v : List Float) (e : Float) (w : Remaining) (c : Cut) (b : List ℕ) (w' : Remaining) (c' : Cut) (a : List ℕ) : Type 0 where
-  pub inside : Inside v (w' .at) (w' .n)
-  pub room : Room (w' .n) c' a
-  pub state : stateOf (held w') c' a ≡ pass v e (stateOf (held w) c b)
+  pub inside : Inside v (w' .idx) (w' .m)
+  pub room : Room (w' .m) c' a
+  pub state : clippingOf (idxOf w') c' a ≡ pass v e (clippingOf (idxOf w) c b)
   pub rest : drop (3 * c' .triangles) a ≡ drop (3 * c' .triangles) b
   pub grows : c .triangles ≤ c' .triangles
-  pub falls : w' .n < w .n
+  pub falls : w' .m < w .m
 
-module _ (v : List Float) (e : Float) (w : Remaining) (c : Cut) (b : List ℕ) (c' : Cut) (a : List ℕ) (s : Inside v (w .at) (w .n)) where
-  pub goes-without : (k : ℕ) (next : Remaining) → Passing v e (w .at) (w .n) c b (Without k c') a
-      → (next .n + 1 ≡ w .n) × (length (next .at) ≡ 512) × (held next ≡ without k (held w)) → Goes v e w c b next c' a
+module _ (v : List Float) (e : Float) (w : Remaining) (c : Cut) (b : List ℕ) (c' : Cut) (a : List ℕ) (s : Inside v (w .idx) (w .m)) where
+  pub goes-without : (k : ℕ) (next : Remaining) → Passing v e (w .idx) (w .m) c b (Without k c') a
+      → (next .m + 1 ≡ w .m) × (length (next .idx) ≡ 512) × (idxOf next ≡ without k (idxOf w)) → Goes v e w c b next c' a
   goes-without k next p q =
       record {
-        inside = without-inside v w next k s (p .place) (q .0) (q .1) (q .2);
+        inside = without-inside v w next k s (p .index) (q .0) (q .1) (q .2);
         room = record { room = omega (arith, p .room .room); few = omega (arith, p .room .few); short = p .room .short };
-        state = state-eq (q .2) refl refl ∙ p .state;
+        state = clipping-eq (q .2) refl refl ∙ p .state;
         rest = p .rest;
         grows = p .grows;
         falls = omega arith;
       }
 
-  pub goes-fanned : 3 < w .n → Passing v e (w .at) (w .n) c b (Fanned c') a → Goes v e w c b (record { at = w .at; n = 0 }) c' a
+  pub goes-fanned : 3 < w .m → Passing v e (w .idx) (w .m) c b (Fanned c') a → Goes v e w c b (record { idx = w .idx; m = 0 }) c' a
   goes-fanned h3 p =
       record {
         inside = record { long = s .long; small = omega arith; there = λ i h. absurd (not-suc-le-zero h) };
@@ -164,7 +165,7 @@ module _ (v : List Float) (e : Float) (w : Remaining) (c : Cut) (b : List ℕ) (
 
 -- ---- the passes, from the state that the loop has reached
 
-pub record Reaches (v : List Float) (e : Float) (s r : State) (n : ℕ) : Type 0 where
+pub record Reaches (v : List Float) (e : Float) (s r : Clipping) (n : ℕ) : Type 0 where
   pub fuel : ℕ
   pub enough : n ≤ fuel
   pub there : passes fuel v e s ≡ r
@@ -173,7 +174,7 @@ pub record Reaches (v : List Float) (e : Float) (s r : State) (n : ℕ) : Type 0
 pub square-enough : (n : ℕ) → 1 ≤ n → n ≤ n * n
 square-enough n h = omega (arith, mul-le-mul-left n h)
 
-pub reaches-next : (v : List Float) (e : Float) (s s' r : State) (n n' : ℕ) → n ≡ length (s .left) → 3 < n → n' < n → s' ≡ pass v e s → Reaches v e s r n → Reaches v e s' r n'
+pub reaches-next : (v : List Float) (e : Float) (s s' r : Clipping) (n n' : ℕ) → n ≡ length (s .idx) → 3 < n → n' < n → s' ≡ pass v e s → Reaches v e s r n → Reaches v e s' r n'
 reaches-next v e s s' r n n' hn h3 h hs q =
     let p : q .fuel ≡ suc (q .fuel - 1) = omega (arith, q .enough) in
     record {
@@ -182,35 +183,35 @@ reaches-next v e s s' r n n' hn h3 h hs q =
       there = ap (passes (q .fuel - 1) v e) hs ∙ sym (passes-more v e s (q .fuel - 1) (omega arith)) ∙ ap (λ (f : ℕ). passes f v e s) (sym p) ∙ q .there;
     }
 
-pub reaches-end : (v : List Float) (e : Float) (s r : State) (n : ℕ) → length (s .left) ≤ 3 → Reaches v e s r n → s ≡ r
+pub reaches-end : (v : List Float) (e : Float) (s r : Clipping) (n : ℕ) → length (s .idx) ≤ 3 → Reaches v e s r n → s ≡ r
 reaches-end v e s r n h q = sym (passes-done v e s (q .fuel) h) ∙ q .there
 
 -- ---- the loop
 
 -- what the loop keeps: w remain, c has the counts, out is the slice, which was out₀ at first; the passes go on to r
-pub record Going (v : List Float) (e : Float) (r : State) (out₀ : List ℕ) (w : Remaining) (c : Cut) (out : List ℕ) : Type 0 where
-  pub inside : Inside v (w .at) (w .n)
-  pub room : Room (w .n) c out
+pub record Going (v : List Float) (e : Float) (r : Clipping) (out₀ : List ℕ) (w : Remaining) (c : Cut) (out : List ℕ) : Type 0 where
+  pub inside : Inside v (w .idx) (w .m)
+  pub room : Room (w .m) c out
   pub long : length out ≡ length out₀
   pub rest : drop (3 * c .triangles) out ≡ drop (3 * c .triangles) out₀
-  pub reaches : Reaches v e (stateOf (held w) c out) r (w .n)
+  pub reaches : Reaches v e (clippingOf (idxOf w) c out) r (w .m)
 
-pub goes-on : (v : List Float) (e : Float) (r : State) (out₀ : List ℕ) (w : Remaining) (c : Cut) (b : List ℕ) (w' : Remaining) (c' : Cut) (a : List ℕ) → 3 < w .n
+pub goes-on : (v : List Float) (e : Float) (r : Clipping) (out₀ : List ℕ) (w : Remaining) (c : Cut) (b : List ℕ) (w' : Remaining) (c' : Cut) (a : List ℕ) → 3 < w .m
     → length a ≡ length b → Goes v e w c b w' c' a → Going v e r out₀ w c b → Going v e r out₀ w' c' a
 goes-on v e r out₀ w c b w' c' a h3 hl g i =
     record {
       inside = g .inside;
       room = g .room;
       long = hl ∙ i .long;
-      rest = g .rest ∙ drop-more (3 * c .triangles) (3 * c' .triangles) b out₀ (omega (arith, g .grows)) (i .rest);
-      reaches = reaches-next v e (stateOf (held w) c b) _ r (w .n) _ (sym (left-length v (w .at) (w .n) (i .inside))) h3 (g .falls) (g .state) (i .reaches);
+      rest = g .rest ∙ drop-further (3 * c .triangles) (3 * c' .triangles) b out₀ (omega (arith, g .grows)) (i .rest);
+      reaches = reaches-next v e (clippingOf (idxOf w) c b) _ r (w .m) _ (sym (idx-length v (w .idx) (w .m) (i .inside))) h3 (g .falls) (g .state) (i .reaches);
     }
 
 -- ---- the answer
 
-pub gives : (s : State) (r : Cut) (b a : List ℕ) → take (3 * r .triangles) a ≡ s .triangles → drop (3 * r .triangles) a ≡ drop (3 * r .triangles) b
-    → 3 * r .triangles ≤ length a → r .removed ≡ s .removed → Gives s r b a
-gives s r b a t d h m =
+pub cut-as : (s : Clipping) (r : Cut) (b a : List ℕ) → take (3 * r .triangles) a ≡ s .triangles → drop (3 * r .triangles) a ≡ drop (3 * r .triangles) b
+    → 3 * r .triangles ≤ length a → r .removed ≡ s .removed → CutAs s r b a
+cut-as s r b a t d h m =
     let n : length (s .triangles) ≡ 3 * r .triangles = ap length (sym t) ∙ length-take-le (3 * r .triangles) a h in
     record {
       slice =
@@ -221,20 +222,20 @@ gives s r b a t d h m =
       removed = m;
     }
 
--- the slice at entry in the place of a later one that agrees from where triangles are still to be written
-pub gives-from : (s s' : State) (r : Cut) (t : ℕ) (b₀ b a : List ℕ) → s ≡ s' → t ≤ r .triangles → drop (3 * t) b ≡ drop (3 * t) b₀ → Gives s r b a → Gives s' r b₀ a
-gives-from s s' r t b₀ b a e h d g =
+-- the slice at entry instead of a later one that agrees from where triangles are still to be written
+pub cut-from : (s s' : Clipping) (r : Cut) (t : ℕ) (b₀ b a : List ℕ) → s ≡ s' → t ≤ r .triangles → drop (3 * t) b ≡ drop (3 * t) b₀ → CutAs s r b a → CutAs s' r b₀ a
+cut-from s s' r t b₀ b a e h d g =
     let n : length (s .triangles) ≡ 3 * r .triangles = g .count in
-    let q : Gives s r b₀ a =
+    let q : CutAs s r b₀ a =
     record {
-      slice = g .slice ∙ ap (λ (l : List ℕ). s .triangles ++ l) (drop-more (3 * t) (length (s .triangles)) b b₀ (omega arith) d);
+      slice = g .slice ∙ ap (λ (l : List ℕ). s .triangles ++ l) (drop-further (3 * t) (length (s .triangles)) b b₀ (omega arith) d);
       count = g .count;
       removed = g .removed;
     } in
     rw e at q
 
-pub gives-short : {s : State} {c : Cut} {b a : List ℕ} → Gives s c b a → 3 * c .triangles ≤ length a
-gives-short {s} {c} {b} {a} g =
+pub cut-short : {s : Clipping} {c : Cut} {b a : List ℕ} → CutAs s c b a → 3 * c .triangles ≤ length a
+cut-short {s} {c} {b} {a} g =
     omega (arith, ap length (g .slice) ∙ length-append (s .triangles) (drop (length (s .triangles)) b), g .count)
 
 three-of : (l : List ℕ) → length l ≡ 3 → getD l 0 0 ∷ getD l 1 0 ∷ getD l 2 0 ∷ [] ≡ take 3 l
@@ -245,54 +246,54 @@ three-of (a ∷ b ∷ c ∷ l) h = refl
 
 -- ---- the last three corners
 
-module _ (v : List Float) (e : Float) (at : List ℕ) (n : ℕ) (c : Cut) (b : List ℕ) (s : Inside v at n) (m : Room n c b) where
+module _ (v : List Float) (e : Float) (idx : List ℕ) (n : ℕ) (c : Cut) (b : List ℕ) (s : Inside v idx n) (m : Room n c b) where
   -- no triangle is written
-  pub same-gives : finished v e (stateOf (take n at) c b) ≡ stateOf (take n at) c b → Gives (finished v e (stateOf (take n at) c b)) c b b
-  same-gives q =
-      gives (finished v e (stateOf (take n at) c b)) c b b
-      (ap (λ (r : State). r .triangles) (sym q)) refl (omega (arith, m .room)) (ap (λ (r : State). r .removed) (sym q))
+  pub same-cut : finished v e (clippingOf (take n idx) c b) ≡ clippingOf (take n idx) c b → CutAs (finished v e (clippingOf (take n idx) c b)) c b b
+  same-cut q =
+      cut-as (finished v e (clippingOf (take n idx) c b)) c b b
+      (ap (λ (r : Clipping). r .triangles) (sym q)) refl (omega (arith, m .room)) (ap (λ (r : Clipping). r .removed) (sym q))
 
-  pub few-gives : (n ≡ 3 → ⊥) → Gives (finished v e (stateOf (take n at) c b)) c b b
-  few-gives h = same-gives (finished-few v e (stateOf (take n at) c b) (λ l. h (sym (left-length v at n s) ∙ l)))
+  pub few-cut : (n ≡ 3 → ⊥) → CutAs (finished v e (clippingOf (take n idx) c b)) c b b
+  few-cut h = same-cut (finished-few v e (clippingOf (take n idx) c b) (λ l. h (sym (idx-length v idx n s) ∙ l)))
 
-  -- three remain, and turn by x
-  module _ (h3 : n ≡ 3) (x : Float) (hx : x ≡ cross (point v (getD at 0 0)) (point v (getD at 1 0)) (point v (getD at 2 0))) where
-    in-list : (i : ℕ) → i < 3 → getD (take n at) i 0 ≡ getD at i 0
-    in-list i h = left-at v at n s i (omega arith)
+  -- three remain, and x is their cross
+  module _ (h3 : n ≡ 3) (x : Float) (hx : x ≡ cross (point v (getD idx 0 0)) (point v (getD idx 1 0)) (point v (getD idx 2 0))) where
+    in-list : (i : ℕ) → i < 3 → getD (take n idx) i 0 ≡ getD idx i 0
+    in-list i h = idx-at v idx n s i (omega arith)
 
-    three : length (take n at) ≡ 3
-    three = left-length v at n s ∙ h3
+    three : length (take n idx) ≡ 3
+    three = idx-length v idx n s ∙ h3
 
-    turned : x ≡ cross (point v (getD (take n at) 0 0)) (point v (getD (take n at) 1 0)) (point v (getD (take n at) 2 0))
-    turned = rw (in-list 0 (omega arith), in-list 1 (omega arith), in-list 2 (omega arith)) hx
+    cross-is : x ≡ cross (point v (getD (take n idx) 0 0)) (point v (getD (take n idx) 1 0)) (point v (getD (take n idx) 2 0))
+    cross-is = rw (in-list 0 (omega arith), in-list 1 (omega arith), in-list 2 (omega arith)) hx
 
-    pub flat-gives : lt e x ≡ false → Gives (finished v e (stateOf (take n at) c b)) c b b
-    flat-gives h = same-gives (finished-flat v e (stateOf (take n at) c b) x turned three h)
+    pub flat-cut : lt e x ≡ false → CutAs (finished v e (clippingOf (take n idx) c b)) c b b
+    flat-cut h = same-cut (finished-flat v e (clippingOf (take n idx) c b) x cross-is three h)
 
-    pub triangle-gives : (a : List ℕ) → length a ≡ length b → lt e x ≡ true
-        → Wrote (c .triangles) (c .triangles + 1) (getD at 0 0 ∷ getD at 1 0 ∷ getD at 2 0 ∷ []) b a
-        → Gives (finished v e (stateOf (take n at) c b)) (record { triangles = c .triangles + 1; removed = c .removed }) b a
-    triangle-gives a hl h p =
-        let q = finished-triangle v e (stateOf (take n at) c b) x turned three h in
-        let l : getD at 0 0 ∷ getD at 1 0 ∷ getD at 2 0 ∷ [] ≡ take 3 (take n at) =
-        rw (← in-list 0 (omega arith), ← in-list 1 (omega arith), ← in-list 2 (omega arith)) (three-of (take n at) three) in
-        gives (finished v e (stateOf (take n at) c b)) (record { triangles = c .triangles + 1; removed = c .removed }) b a
-        (p .front ∙ ap (λ (r : List ℕ). take (3 * c .triangles) b ++ r) l ∙ ap (λ (r : State). r .triangles) (sym q))
+    pub triangle-cut : (a : List ℕ) → length a ≡ length b → lt e x ≡ true
+        → WroteTriangles (c .triangles) (c .triangles + 1) (getD idx 0 0 ∷ getD idx 1 0 ∷ getD idx 2 0 ∷ []) b a
+        → CutAs (finished v e (clippingOf (take n idx) c b)) (record { triangles = c .triangles + 1; removed = c .removed }) b a
+    triangle-cut a hl h p =
+        let q = finished-triangle v e (clippingOf (take n idx) c b) x cross-is three h in
+        let l : getD idx 0 0 ∷ getD idx 1 0 ∷ getD idx 2 0 ∷ [] ≡ take 3 (take n idx) =
+        rw (← in-list 0 (omega arith), ← in-list 1 (omega arith), ← in-list 2 (omega arith)) (three-of (take n idx) three) in
+        cut-as (finished v e (clippingOf (take n idx) c b)) (record { triangles = c .triangles + 1; removed = c .removed }) b a
+        (p .front ∙ ap (λ (r : List ℕ). take (3 * c .triangles) b ++ r) l ∙ ap (λ (r : Clipping). r .triangles) (sym q))
         (p .rest)
         (omega (arith, m .room))
-        (ap (λ (r : State). r .removed) (sym q))
+        (ap (λ (r : Clipping). r .removed) (sym q))
 
 -- ---- the whole
 
-pub start-is : (c : Remaining) (n : ℕ) (out : List ℕ) → held c ≡ counting 0 n → stateOf (held c) (record { triangles = 0; removed = 0 }) out ≡ start n
+pub start-is : (c : Remaining) (n : ℕ) (out : List ℕ) → idxOf c ≡ counting 0 n → clippingOf (idxOf c) (record { triangles = 0; removed = 0 }) out ≡ start n
 unfolding start
-start-is c n out e = state-eq e refl refl
+start-is c n out e = clipping-eq e refl refl
 
 module _ (v : List Float) where
-  pub triangulate-few : (b : List ℕ) → length v / 2 < 3 → Gives (triangulatePolygon v) (record { triangles = 0; removed = 0 }) b b
-  unfolding triangulatePolygon triangulated pickState
-  triangulate-few b h = rw (lt-ltb (length v / 2) 3 h) (gives (record { left = []; triangles = []; removed = 0 }) (record { triangles = 0; removed = 0 }) b b refl refl (omega arith) refl)
+  pub triangulate-few : (b : List ℕ) → length v / 2 < 3 → CutAs (triangulatePolygon v) (record { triangles = 0; removed = 0 }) b b
+  unfolding triangulatePolygon triangulated
+  triangulate-few b h = rw (lt-ltb (length v / 2) 3 h) (cut-as (record { idx = []; triangles = []; removed = 0 }) (record { triangles = 0; removed = 0 }) b b refl refl (omega arith) refl)
 
-  pub triangulate-is : (e : Float) (s : State) → 3 ≤ length v / 2 → e ≡ tolerance v → s ≡ passes (length v / 2 * (length v / 2)) v e (start (length v / 2)) → finished v e s ≡ triangulatePolygon v
-  unfolding triangulatePolygon triangulated pickState
+  pub triangulate-is : (e : Float) (s : Clipping) → 3 ≤ length v / 2 → e ≡ tolerance v → s ≡ passes (length v / 2 * (length v / 2)) v e (start (length v / 2)) → finished v e s ≡ triangulatePolygon v
+  unfolding triangulatePolygon triangulated
   triangulate-is e s h he hs = rw (le-ltb (length v / 2) 3 h, hs, he)

@@ -9,10 +9,11 @@ use native.Mathlib.Omega.{arith}
 use lib.ListN.{length, getD, take, drop, set, length-append, length-drop, length-set, drop-of-length-le, List·getD-append}
 use lib.Seq.{drop-cons, take-suc, take-suc-set, drop-set-lt, getD-drop, getD-take, length-take-le, take-take, drop-drop, take-add, take-at, drop-at, take-append-add, getD-append-add}
 use lib.Ieee.{Float}
+use Rattle.outline.proofs.Laws.{drop-further}
 use Rattle.outline_ears.specs.Inside.{Inside}
-use Rattle.outline_ears.proofs.Laws.{left-length, left-at}
+use Rattle.outline_ears.proofs.Laws.{idx-length, idx-at}
 use Rattle.outline_triangulate.specs.Triangulate.{without, fans, fan, counting}
-use Rattle.outline_triangulate.specs.Slices.{held, Wrote}
+use Rattle.outline_triangulate.specs.Slices.{idxOf, WroteTriangles}
 use Rattle.outline_triangulate.specs.declared.Remaining.{Remaining}
 
 -- ---- a corner goes
@@ -100,7 +101,7 @@ module _ (j : ℕ) (o : List ℕ) (a b c : ℕ) (h : j + 3 ≤ length o) where
       ∙ drop-set-lt (j + 3) o j a (omega arith)
 
 pub put-wrote : (t : ℕ) (o : List ℕ) (a b c : ℕ) → 3 * t + 3 ≤ length o
-    → Wrote t (t + 1) (a ∷ b ∷ c ∷ []) o (set (set (set o (3 * t) a) (3 * t + 1) b) (3 * t + 2) c)
+    → WroteTriangles t (t + 1) (a ∷ b ∷ c ∷ []) o (set (set (set o (3 * t) a) (3 * t + 1) b) (3 * t + 2) c)
 put-wrote t o a b c h =
     let e : 3 * (t + 1) ≡ 3 * t + 3 = omega arith in
     record {
@@ -136,14 +137,14 @@ counting-at k zero i h = absurd (not-suc-le-zero h)
 counting-at k (suc n) zero h = sym (add-zero k)
 counting-at k (suc n) (suc i) h = counting-at (suc k) n i (le-of-suc-le-suc h) ∙ suc-add k i ∙ sym (add-suc k i)
 
-pub counting-inside : (v : List Float) (c : Remaining) → length (c .at) ≡ 512 → c .n ≤ 512 → 2 * c .n ≤ length v → held c ≡ counting 0 (c .n) → Inside v (c .at) (c .n)
+pub counting-inside : (v : List Float) (c : Remaining) → length (c .idx) ≡ 512 → c .m ≤ 512 → 2 * c .m ≤ length v → idxOf c ≡ counting 0 (c .m) → Inside v (c .idx) (c .m)
 counting-inside v c long small there e =
     record {
       long = long;
       small = small;
       there = λ i h.
-          let g : getD (c .at) i 0 ≡ i =
-          sym (getD-take (c .n) (c .at) i 0 h) ∙ ap (λ (l : List ℕ). getD l i 0) e ∙ counting-at 0 (c .n) i h ∙ zero-add i in
+          let g : getD (c .idx) i 0 ≡ i =
+          sym (getD-take (c .m) (c .idx) i 0 h) ∙ ap (λ (l : List ℕ). getD l i 0) e ∙ counting-at 0 (c .m) i h ∙ zero-add i in
           omega arith;
     }
 
@@ -155,22 +156,22 @@ getD-without-low k l i h hl =
     let n : length (take k l) ≡ k = length-take-le k l hl in
     List·getD-append (take k l) (drop (suc k) l) 0 i (omega arith) ∙ getD-take k l i 0 h
 
-module _ (v : List Float) (c r : Remaining) (k : ℕ) (s : Inside v (c .at) (c .n)) (h : k < c .n) (n : r .n + 1 ≡ c .n) (long : length (r .at) ≡ 512) (e : held r ≡ without k (held c)) where
-  same-at : (i : ℕ) → i < r .n → getD (r .at) i 0 ≡ getD (without k (held c)) i 0
-  same-at i hi = sym (getD-take (r .n) (r .at) i 0 hi) ∙ ap (λ (l : List ℕ). getD l i 0) e
+module _ (v : List Float) (c r : Remaining) (k : ℕ) (s : Inside v (c .idx) (c .m)) (h : k < c .m) (n : r .m + 1 ≡ c .m) (long : length (r .idx) ≡ 512) (e : idxOf r ≡ without k (idxOf c)) where
+  same-at : (i : ℕ) → i < r .m → getD (r .idx) i 0 ≡ getD (without k (idxOf c)) i 0
+  same-at i hi = sym (getD-take (r .m) (r .idx) i 0 hi) ∙ ap (λ (l : List ℕ). getD l i 0) e
 
-  inside-by : (i : ℕ) → i < r .n → Dec (i < k) → 2 * getD (r .at) i 0 + 1 < length v
+  inside-by : (i : ℕ) → i < r .m → Dec (i < k) → 2 * getD (r .idx) i 0 + 1 < length v
   inside-by i hi (yes p) =
-      let hl : length (held c) ≡ c .n = left-length v (c .at) (c .n) s in
-      let g : getD (r .at) i 0 ≡ getD (c .at) i 0 = same-at i hi ∙ getD-without-low k (held c) i p (omega arith) ∙ left-at v (c .at) (c .n) s i (omega arith) in
+      let hl : length (idxOf c) ≡ c .m = idx-length v (c .idx) (c .m) s in
+      let g : getD (r .idx) i 0 ≡ getD (c .idx) i 0 = same-at i hi ∙ getD-without-low k (idxOf c) i p (omega arith) ∙ idx-at v (c .idx) (c .m) s i (omega arith) in
       omega (arith, s .there i (omega arith))
   inside-by i hi (no p) =
-      let hl : length (held c) ≡ c .n = left-length v (c .at) (c .n) s in
+      let hl : length (idxOf c) ≡ c .m = idx-length v (c .idx) (c .m) s in
       let q : k ≤ i = omega (arith, p) in
-      let g : getD (r .at) i 0 ≡ getD (c .at) (i + 1) 0 = same-at i hi ∙ getD-without k (held c) i q (omega arith) ∙ left-at v (c .at) (c .n) s (i + 1) (omega arith) in
+      let g : getD (r .idx) i 0 ≡ getD (c .idx) (i + 1) 0 = same-at i hi ∙ getD-without k (idxOf c) i q (omega arith) ∙ idx-at v (c .idx) (c .m) s (i + 1) (omega arith) in
       omega (arith, s .there (i + 1) (omega arith))
 
-  pub without-inside : Inside v (r .at) (r .n)
+  pub without-inside : Inside v (r .idx) (r .m)
   without-inside = record { long = long; small = omega (arith, s .small); there = λ i hi. inside-by i hi (decLt i k) }
 
 -- ---- the fan
@@ -195,12 +196,6 @@ fans-end a l k h =
     let d : drop k l ≡ getD l k 0 ∷ drop (k + 1) l = rw (add-one, drop-cons l k 0 (omega arith)) in
     ap (fans a) (d ∙ ap (λ (r : List ℕ). getD l k 0 ∷ r) (drop-of-length-le l {i = k + 1} (omega arith)))
 
--- drop more where what is dropped agrees
-pub drop-more : (n m : ℕ) (a b : List ℕ) → n ≤ m → drop n a ≡ drop n b → drop m a ≡ drop m b
-drop-more n m a b h e =
-    let s : n + (m - n) ≡ m = omega arith in
-    ap (λ (j : ℕ). drop j a) (sym s) ∙ sym (drop-drop (m - n) n a) ∙ ap (drop (m - n)) e ∙ drop-drop (m - n) n b ∙ ap (λ (j : ℕ). drop j b) s
-
 -- what the loop of the fan keeps: what is written and what is to come are the whole
 pub record Fanning (t k : ℕ) (a : ℕ) (l b o : List ℕ) : Type 0 where
   pub front : take (3 * (t + (k - 1))) o ++ fans a (drop k l) ≡ take (3 * t) b ++ fan l
@@ -215,7 +210,7 @@ fanning-start t l b h =
     }
 
 pub fanning-next : (t k a : ℕ) (l b o o' : List ℕ) → 1 ≤ k → k + 1 < length l → Fanning t k a l b o
-    → Wrote (t + (k - 1)) (t + (k - 1) + 1) (a ∷ getD l k 0 ∷ getD l (k + 1) 0 ∷ []) o o' → Fanning t (k + 1) a l b o'
+    → WroteTriangles (t + (k - 1)) (t + (k - 1) + 1) (a ∷ getD l k 0 ∷ getD l (k + 1) 0 ∷ []) o o' → Fanning t (k + 1) a l b o'
 fanning-next t k a l b o o' h hl f w =
     let e : t + (k + 1 - 1) ≡ t + (k - 1) + 1 = omega arith in
     record {
@@ -228,11 +223,11 @@ fanning-next t k a l b o o' h hl f w =
       rest =
           ap (λ (j : ℕ). drop (3 * j) o') e
           ∙ w .rest
-          ∙ drop-more (3 * (t + (k - 1))) (3 * (t + (k - 1) + 1)) o b (omega arith) (f .rest)
+          ∙ drop-further (3 * (t + (k - 1))) (3 * (t + (k - 1) + 1)) o b (omega arith) (f .rest)
           ∙ ap (λ (j : ℕ). drop (3 * j) b) (sym e);
     }
 
-pub fanning-end : (t k a : ℕ) (l b o : List ℕ) → 1 ≤ k → length l ≡ k + 1 → Fanning t k a l b o → Wrote t (t + (length l - 2)) (fan l) b o
+pub fanning-end : (t k a : ℕ) (l b o : List ℕ) → 1 ≤ k → length l ≡ k + 1 → Fanning t k a l b o → WroteTriangles t (t + (length l - 2)) (fan l) b o
 fanning-end t k a l b o h hl f =
     let e : t + (length l - 2) ≡ t + (k - 1) = omega arith in
     record {

@@ -1,38 +1,38 @@
 -- `triangulate_polygon` of src/tessellate.rs, with docs/SCOPE.md's count of the corners that were removed singly.
--- v is the corner list, two floats to a corner, and e is eps. Triangles are a list of corner numbers, three to a triangle. Assumes nothing.
+-- v is the corner list, two floats to a corner, and eps the Rust's eps. Triangles are a list of corner numbers, three to a triangle. Assumes nothing.
 use Prim.Native.Nat.{ℕ, zero, suc, _+_, _*_, _/_}
-use mathlib.Core.Bool.{Bool, true, false, _&&_}
+use mathlib.Core.Bool.{cond, _&&_}
 use mathlib.Core.List.{List, [], _∷_, _++_}
 use lib.ListN.{length, getD, take, drop}
 use lib.Dec.{ltb, eqb}
 use lib.Ieee.{Float, lt}
 use Rattle.outline.specs.Corners.{point}
-use Rattle.outline_ears.specs.Ears.{cross, tolerance, before, after, firstEar, firstFlat}
+use Rattle.outline_ears.specs.Ears.{cross, tolerance, ip, inx, firstEar, firstFlat}
 use Rattle.outline_ears.specs.declared.Found.{Found}
 use Rattle.outline_ears.specs.declared.Found.the-variants.{At, Nothing}
 
--- the Rust's idx and out, and docs/SCOPE.md's count of corners removed singly, clipped or dropped
-pub record State : Type 0 where
-  pub left : List ℕ
+-- a state of the clipper: the Rust's idx, its out as a list of numbers, and docs/SCOPE.md's count of corners removed singly, clipped or dropped
+pub record Clipping : Type 0 where
+  pub idx : List ℕ
   pub triangles : List ℕ
   pub removed : ℕ
 
 -- the Rust's idx.remove(k)
 unfoldable pub without : ℕ → List ℕ → List ℕ
-without k l = take k l ++ drop (suc k) l
+without k idx = take k idx ++ drop (suc k) idx
 
--- the ear at place k goes, and its triangle is given
-unfoldable pub clipped : State → ℕ → State
+-- out.push([ip, ic, inx]) and idx.remove(k): the ear at index k goes, and its triangle is given
+unfoldable pub clipped : Clipping → ℕ → Clipping
 clipped s k =
     record {
-      left = without k (s .left);
-      triangles = s .triangles ++ (before (s .left) k ∷ getD (s .left) k 0 ∷ after (s .left) k ∷ []);
+      idx = without k (s .idx);
+      triangles = s .triangles ++ (ip (s .idx) k ∷ getD (s .idx) k 0 ∷ inx (s .idx) k ∷ []);
       removed = s .removed + 1;
     }
 
--- the flat corner at place k goes, with no triangle
-unfoldable pub dropped : State → ℕ → State
-dropped s k = record { left = without k (s .left); triangles = s .triangles; removed = s .removed + 1 }
+-- idx.remove(k) alone: the flat corner at index k goes, with no triangle
+unfoldable pub dropped : Clipping → ℕ → Clipping
+dropped s k = record { idx = without k (s .idx); triangles = s .triangles; removed = s .removed + 1 }
 
 -- the triangles from a to each side of a chain of corners
 unfoldable pub fans : ℕ → List ℕ → List ℕ
@@ -46,36 +46,31 @@ unfolding fans
 fan [] = []
 fan (a ∷ l) = fans a l
 
--- the rest is fanned; the Rust returns here, so nothing is left
-unfoldable pub fanned : State → State
+-- the rest is fanned; the Rust returns here, so no corner remains
+unfoldable pub fanned : Clipping → Clipping
 unfolding fan
-fanned s = record { left = []; triangles = s .triangles ++ fan (s .left); removed = s .removed }
+fanned s = record { idx = []; triangles = s .triangles ++ fan (s .idx); removed = s .removed }
 
-unfoldable pub byFound : Found → (ℕ → State) → State → State
+-- what f makes of the index that was found, or s where there is none
+unfoldable pub byFound : Found → (ℕ → Clipping) → Clipping → Clipping
 byFound (At k) f s = f k
 byFound Nothing f s = s
 
 -- one pass of the Rust's while loop: the first unblocked ear is clipped; with none, the first flat corner goes; with none, the rest is fanned
-unfoldable pub pass : List Float → Float → State → State
+unfoldable pub pass : List Float → Float → Clipping → Clipping
 unfolding byFound
-pass v e s = byFound (firstEar v e (s .left)) (clipped s) (byFound (firstFlat v e (s .left)) (dropped s) (fanned s))
-
-unfoldable pub pickState : Bool → State → State → State
-pickState true a b = a
-pickState false a b = b
+pass v eps s = byFound (firstEar v eps (s .idx)) (clipped s) (byFound (firstFlat v eps (s .idx)) (dropped s) (fanned s))
 
 -- the Rust's `while idx.len() > 3 && guard < g`
-unfoldable pub passes : ℕ → List Float → Float → State → State
-unfolding pickState
-passes zero v e s = s
-passes (suc g) v e s = let r = passes g v e (pass v e s) in pickState (ltb 3 (length (s .left))) r s
+unfoldable pub passes : ℕ → List Float → Float → Clipping → Clipping
+passes zero v eps s = s
+passes (suc g) v eps s = cond (ltb 3 (length (s .idx))) (passes g v eps (pass v eps s)) s
 
--- three corners that are left are a triangle where cross > eps
-unfoldable pub finished : List Float → Float → State → State
-unfolding pickState
-finished v e s =
-    pickState (eqb (length (s .left)) 3 && lt e (cross (point v (getD (s .left) 0 0)) (point v (getD (s .left) 1 0)) (point v (getD (s .left) 2 0))))
-    (record { left = []; triangles = s .triangles ++ take 3 (s .left); removed = s .removed })
+-- the Rust's last test: three corners that remain are a triangle where cross > eps
+unfoldable pub finished : List Float → Float → Clipping → Clipping
+finished v eps s =
+    cond (eqb (length (s .idx)) 3 && lt eps (cross (point v (getD (s .idx) 0 0)) (point v (getD (s .idx) 1 0)) (point v (getD (s .idx) 2 0))))
+    (record { idx = []; triangles = s .triangles ++ take 3 (s .idx); removed = s .removed })
     s
 
 -- k, k + 1, .., n numbers
@@ -84,17 +79,16 @@ counting k zero = []
 counting k (suc n) = k ∷ counting (suc k) n
 
 -- the Rust's idx = (0..n).collect(), and no triangles
-unfoldable pub start : ℕ → State
+unfoldable pub start : ℕ → Clipping
 unfolding counting
-start n = record { left = counting 0 n; triangles = []; removed = 0 }
+start n = record { idx = counting 0 n; triangles = []; removed = 0 }
 
 -- for n corners: fewer than 3 give nothing; the guard is n * n
-unfoldable pub triangulated : List Float → ℕ → State
-unfolding pickState
+unfoldable pub triangulated : List Float → ℕ → Clipping
 triangulated v n =
-    pickState (ltb n 3) (record { left = []; triangles = []; removed = 0 })
+    cond (ltb n 3) (record { idx = []; triangles = []; removed = 0 })
     (finished v (tolerance v) (passes (n * n) v (tolerance v) (start n)))
 
 -- `triangulate_polygon`
-unfoldable pub triangulatePolygon : List Float → State
+unfoldable pub triangulatePolygon : List Float → Clipping
 triangulatePolygon v = triangulated v (length v / 2)

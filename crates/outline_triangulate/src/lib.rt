@@ -4,10 +4,10 @@ mod passes;
 
 pub use passes::triangulate_polygon;
 
-// The corners that remain: the first n numbers of at.
+// The Rust's idx, the numbers of the corners that remain: the first m numbers of the array.
 pub struct Remaining {
-    pub at: [u32; 512],
-    pub n: usize,
+    pub idx: [u32; 512],
+    pub m: usize,
 }
 
 // How many triangles were given, and how many corners were removed singly.
@@ -16,7 +16,7 @@ pub struct Cut {
     pub removed: usize,
 }
 
-// What a pass answers, with the counts then: the corner at a place goes, or the rest was fanned and nothing remains.
+// What a pass answers, with the counts then: the corner at an index of idx goes, or the rest was fanned and nothing remains.
 pub enum Passed {
     Without(usize, Cut),
     Fanned(Cut),

@@ -13,15 +13,15 @@ use outline::clean_polygon;
 use outline::corner;
 use outline::put_corner;
 
-// What the side from a to b adds to twice the area.
+// What the side from a to b adds to the Rust's sum, which is twice the area.
 fn wedge(a: Point, b: Point) -> f64
     ensures { λ r. ⌜ r ≡ wedge· a b ⌝ }
 {
     a.x * b.y - b.x * a.y
 }
 
-// The area that the corners enclose, positive where they run counter-clockwise.
-pub fn signed_area(v: &[f64]) -> f64
+// The Rust's signed_area: half the sum over the sides, above 0 where the corners run counter-clockwise.
+fn signed_area(v: &[f64]) -> f64
     ensures { λ r. ⌜ r ≡ signedArea (now (v .entry)) ⌝ }
 {
     let n = v.len() / 2;
@@ -64,14 +64,15 @@ fn copy_swapped(v: &[f64], out: &mut [f64]) -> usize
     n
 }
 
-// The cleaned corners counter-clockwise: reversed where their signed area is below 0. out holds them, then +0.0.
+// The corners that the Rust's ccw_polygon returns, of 512 corners at most: cleaned, and reversed where their signed area is below 0. out holds them, then +0.0; and
+// how many there are.
 pub fn ccw_polygon(v: &[f64], out: &mut [f64; 1024]) -> usize
     requires { ⌜ length (now v) ≤ 1024 ⌝ }
     ensures { λ r. ⌜ (2 * r ≡ length (ccwPolygon (now (v .entry)))) × (now (out .exit) ≡ padded (ccwPolygon (now (v .entry))) 1024) ⌝ }
 {
     let n = clean_polygon(v, out);
-    let held = *out;
-    let p = &held[..2 * n];
+    let cleaned = *out;
+    let p = &cleaned[..2 * n];
     if signed_area(p) < 0.0 {
         copy_reversed(p, out);
         return n;
@@ -79,15 +80,16 @@ pub fn ccw_polygon(v: &[f64], out: &mut [f64; 1024]) -> usize
     n
 }
 
-// The corners that a solid is made from: those of ccw_polygon, of the corners swapped where swap says so (a rotated outline). out holds them, then +0.0.
+// The corners that a solid is made from: those of ccw_polygon, of the corners swapped where swap says so (a rotated outline). out holds them, then +0.0; and how many
+// there are.
 pub fn prepare(list: &[f64], swap: bool, out: &mut [f64; 1024]) -> usize
     requires { ⌜ length (now list) ≤ 1024 ⌝ }
     ensures { λ r. ⌜ (2 * r ≡ length (prepared swap (now (list .entry)))) × (now (out .exit) ≡ padded (prepared swap (now (list .entry))) 1024) ⌝ }
 {
     if swap {
-        let mut held = [0.0; 1024];
-        let m = copy_swapped(list, &mut held);
-        return ccw_polygon(&held[..2 * m], out);
+        let mut swapped = [0.0; 1024];
+        let m = copy_swapped(list, &mut swapped);
+        return ccw_polygon(&swapped[..2 * m], out);
     }
     ccw_polygon(list, out)
 }

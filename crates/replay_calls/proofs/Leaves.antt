@@ -7,11 +7,10 @@ use Rattle.mesh_check.specs.declared.TriMesh.{TriMesh}
 use Rattle.mesh_check.specs.State.{state}
 use Rattle.mesh.specs.declared.Edited.{Edited}
 use Rattle.mesh.specs.Outcome.{Outcome, Gives}
-use Rattle.outline_clip.specs.Outcome as Clipping
-use Rattle.outline_clip.specs.Outcome.{clipOutline}
+use Rattle.outline_clip.specs.Clip.{ClipOutcome, clipOutline}
 
 pub leaves : {o : Outcome} {e : Edited} {m : TriMesh} {vs : List Float} {ts : List ℕ} → Gives o e vs ts → m ≡ e .mesh → state m vs ts ≡ o .state
 leaves g h i = record { mesh = (h ∙ g .mesh) i; vertices = g .vertices i; triangles = g .triangles i }
 
-pub leaves-slice : (v : List Float) (k n : ℕ) (o : Clipping.Outcome) → o ≡ clipOutline v k → k ≡ n → o .slice ≡ clipOutline v n .slice
-leaves-slice v k n o e h = ap (λ (o : Clipping.Outcome). o .slice) e ∙ ap (λ (j : ℕ). clipOutline v j .slice) h
+pub leaves-slice : (v : List Float) (k n : ℕ) (o : ClipOutcome) → o ≡ clipOutline v k → k ≡ n → o .slice ≡ clipOutline v n .slice
+leaves-slice v k n o e h = ap (λ (o : ClipOutcome). o .slice) e ∙ ap (λ (j : ℕ). clipOutline v j .slice) h

@@ -3,7 +3,7 @@ ghost use mathlib.Core.Path.{_≡_};
 ghost use lib.ListN.{length};
 ghost use Rattle.mesh_check.specs.State.{state};
 ghost use Rattle.mesh.specs.Edits.{appendOf, flipOf, transformOf};
-ghost use Rattle.outline_clip.specs.Outcome.{clipOutline};
+ghost use Rattle.outline_clip.specs.Clip.{clipOutline};
 ghost use Rattle.replay_calls.specs.Agreed.{agreedOf};
 ghost use Rattle.replay_calls.specs.Sessions.{claimed};
 use crate::written::edited;

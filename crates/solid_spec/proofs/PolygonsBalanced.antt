@@ -13,7 +13,7 @@ use Rattle.mesh_balance_spec.specs.Grid.{Bounds}
 use Rattle.mesh_balance_spec.specs.Prism.{cycle}
 use Rattle.outline.specs.Clean.{cleanPolygon}
 use Rattle.outline.specs.Area.{signedArea}
-use Rattle.outline.specs.Ccw.{pickCorners, swapped, reversed, ccwPolygon, prepared}
+use Rattle.outline.specs.Ccw.{swapped, reversed, ccwPolygon, prepared}
 use Rattle.outline.proofs.Copies.{length-reversed}
 use Rattle.outline_triangulate.specs.Triangulate.{triangulatePolygon}
 use Rattle.outline_caps_law.specs.Caps as Cap
@@ -40,9 +40,9 @@ pub ccw-corners : (v : List Float) → corners (ccwPolygon v) ≡ corners (clean
 unfolding ccwPolygon
 ccw-corners v = go (lt (signedArea (cleanPolygon v)) (ofBits binary64 0))
   where
-    go : (b : Bool) → corners (pickCorners b (reversed (cleanPolygon v)) (cleanPolygon v)) ≡ corners (cleanPolygon v)
-    go true = unfold pickCorners in ap (λ (n : ℕ). n / 2) (length-reversed (cleanPolygon v)) ∙ half (length (cleanPolygon v))
-    go false = unfold pickCorners in refl
+    go : (b : Bool) → corners (cond b (reversed (cleanPolygon v)) (cleanPolygon v)) ≡ corners (cleanPolygon v)
+    go true = ap (λ (n : ℕ). n / 2) (length-reversed (cleanPolygon v)) ∙ half (length (cleanPolygon v))
+    go false = refl
 
 -- with n - 2 of them, the cap triangles have the outline as their boundary
 caps-bound : (p : List Float) → 3 ≤ corners p → capCount p ≡ 3 * (corners p - 2) → Bounds (capTriangles p) (cycle (corners p - 1))
@@ -99,7 +99,7 @@ linPolySoup-balanced n v e l = extrudedPolygon-balanced (min n 2) v (lowEnd e l)
 -- the solid RotPoly: of a full turn, or with n - 2 cap triangles for the n corners that `clean_polygon` leaves of those in (radial, axial) coordinates
 pub rotPolySoup-balanced : (normal a : ℕ) (v : List Float) (start stop : Float) (segments : ℕ)
     → (isFull (absolute (sub binary64 stop start)) ≡ false
-    → capCount (prepared (swaps a normal) v) ≡ 3 * (corners (cleanPolygon (pickCorners (swaps a normal) (swapped v) v)) - 2))
+    → capCount (prepared (swaps a normal) v) ≡ 3 * (corners (cleanPolygon (cond (swaps a normal) (swapped v) v)) - 2))
     → Balanced (map (mapTri plusZeroV) (rotPolySoup normal a v start stop segments))
 unfolding rotPolySoup rotpoly
 rotPolySoup-balanced normal a v start stop segments k = go (ltb normal 3 && ltb a 3 && not (eqb normal a))
@@ -107,8 +107,8 @@ rotPolySoup-balanced normal a v start stop segments k = go (ltb normal 3 && ltb 
     p : List Float
     p = prepared (swaps a normal) v
 
-    same : corners p ≡ corners (cleanPolygon (pickCorners (swaps a normal) (swapped v) v))
-    same = unfold prepared in ccw-corners (pickCorners (swaps a normal) (swapped v) v)
+    same : corners p ≡ corners (cleanPolygon (cond (swaps a normal) (swapped v) v))
+    same = unfold prepared in ccw-corners (cond (swaps a normal) (swapped v) v)
 
     go : (t : Bool) → Closes (cond t (rotpoly a normal v start stop segments) [])
     go true = rotated-closes a (radialAxis a normal) p start stop segments (λ f. k f ∙ ap (λ (n : ℕ). 3 * (n - 2)) (sym same))

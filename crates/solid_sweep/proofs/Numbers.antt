@@ -1,6 +1,6 @@
 -- Every number in the triangles of `triangulatePolygon` is the number of a corner. Assumes nothing.
 use mathlib.Core.Path.{_≡_, refl, sym, ap, _∙_}
-use mathlib.Core.Bool.{Bool, true, false, _&&_}
+use mathlib.Core.Bool.{Bool, true, false, cond, _&&_}
 use mathlib.Core.List.{List, [], _∷_, _++_}
 use Prim.Native.Nat.{ℕ, zero, suc, _+_, _-_, _*_, _/_, _%_, _≤_, _<_}
 use native.Mathlib.Omega.{arith}
@@ -13,8 +13,8 @@ use Rattle.mesh_balance_spec.specs.Buffer.{tris}
 use Rattle.outline.specs.Corners.{point}
 use Rattle.outline_ears.specs.declared.Found.{Found}
 use Rattle.outline_ears.specs.declared.Found.the-variants.{At, Nothing}
-use Rattle.outline_ears.specs.Ears.{cross, tolerance, before, after, firstEar, firstFlat}
-use Rattle.outline_triangulate.specs.Triangulate.{State, without, clipped, dropped, fans, fan, fanned, byFound, pass, pickState, passes, finished, counting, start, triangulated, triangulatePolygon}
+use Rattle.outline_ears.specs.Ears.{cross, tolerance, ip, inx, firstEar, firstFlat}
+use Rattle.outline_triangulate.specs.Triangulate.{Clipping, without, clipped, dropped, fans, fan, fanned, byFound, pass, passes, finished, counting, start, triangulated, triangulatePolygon}
 use Rattle.solid_spec.specs.Polygons.{capTriangles}
 
 -- every number is below n
@@ -63,69 +63,68 @@ module _ (n : ℕ) (some : 0 < n) where
   counting-below k zero h = tt
   counting-below k (suc m) h = (omega arith, counting-below (suc k) m (omega arith))
 
-  record Low (s : State) : Type 0 where
-    left : Below n (s .left)
+  record Low (s : Clipping) : Type 0 where
+    idx : Below n (s .idx)
     triangles : Below n (s .triangles)
 
-  clipped-low : (s : State) (k : ℕ) → Low s → Low (clipped s k)
-  unfolding clipped without before after
+  clipped-low : (s : Clipping) (k : ℕ) → Low s → Low (clipped s k)
+  unfolding clipped without ip inx
   clipped-low s k p =
       record {
-        left = below-append (take k (s .left)) (drop (suc k) (s .left)) (below-take k (s .left) (p .left)) (below-drop (suc k) (s .left) (p .left));
+        idx = below-append (take k (s .idx)) (drop (suc k) (s .idx)) (below-take k (s .idx) (p .idx)) (below-drop (suc k) (s .idx) (p .idx));
         triangles =
-            below-append (s .triangles) (before (s .left) k ∷ getD (s .left) k 0 ∷ after (s .left) k ∷ []) (p .triangles)
-            (below-at (s .left) ((k + length (s .left) - 1) % length (s .left)) (p .left), (below-at (s .left) k (p .left), (below-at (s .left) ((k + 1) % length (s .left)) (p .left), tt)));
+            below-append (s .triangles) (ip (s .idx) k ∷ getD (s .idx) k 0 ∷ inx (s .idx) k ∷ []) (p .triangles)
+            (below-at (s .idx) ((k + length (s .idx) - 1) % length (s .idx)) (p .idx), (below-at (s .idx) k (p .idx), (below-at (s .idx) ((k + 1) % length (s .idx)) (p .idx), tt)));
       }
 
-  dropped-low : (s : State) (k : ℕ) → Low s → Low (dropped s k)
+  dropped-low : (s : Clipping) (k : ℕ) → Low s → Low (dropped s k)
   unfolding dropped without
   dropped-low s k p =
       record {
-        left = below-append (take k (s .left)) (drop (suc k) (s .left)) (below-take k (s .left) (p .left)) (below-drop (suc k) (s .left) (p .left));
+        idx = below-append (take k (s .idx)) (drop (suc k) (s .idx)) (below-take k (s .idx) (p .idx)) (below-drop (suc k) (s .idx) (p .idx));
         triangles = p .triangles;
       }
 
-  fanned-low : (s : State) → Low s → Low (fanned s)
+  fanned-low : (s : Clipping) → Low s → Low (fanned s)
   unfolding fanned
-  fanned-low s p = record { left = tt; triangles = below-append (s .triangles) (fan (s .left)) (p .triangles) (fan-below (s .left) (p .left)) }
+  fanned-low s p = record { idx = tt; triangles = below-append (s .triangles) (fan (s .idx)) (p .triangles) (fan-below (s .idx) (p .idx)) }
 
-  found-low : (f : Found) (g : ℕ → State) (s : State) → ((k : ℕ) → Low (g k)) → Low s → Low (byFound f g s)
+  found-low : (f : Found) (g : ℕ → Clipping) (s : Clipping) → ((k : ℕ) → Low (g k)) → Low s → Low (byFound f g s)
   unfolding byFound
   found-low (At k) g s p q = p k
   found-low Nothing g s p q = q
 
-  pick-low : (b : Bool) (s t : State) → Low s → Low t → Low (pickState b s t)
-  unfolding pickState
+  pick-low : (b : Bool) (s t : Clipping) → Low s → Low t → Low (cond b s t)
   pick-low true s t p q = p
   pick-low false s t p q = q
 
-  pass-low : (v : List Float) (e : Float) (s : State) → Low s → Low (pass v e s)
+  pass-low : (v : List Float) (e : Float) (s : Clipping) → Low s → Low (pass v e s)
   unfolding pass
   pass-low v e s p =
-      found-low (firstEar v e (s .left)) (clipped s) (byFound (firstFlat v e (s .left)) (dropped s) (fanned s)) (λ k. clipped-low s k p)
-      (found-low (firstFlat v e (s .left)) (dropped s) (fanned s) (λ k. dropped-low s k p) (fanned-low s p))
+      found-low (firstEar v e (s .idx)) (clipped s) (byFound (firstFlat v e (s .idx)) (dropped s) (fanned s)) (λ k. clipped-low s k p)
+      (found-low (firstFlat v e (s .idx)) (dropped s) (fanned s) (λ k. dropped-low s k p) (fanned-low s p))
 
-  passes-low : (g : ℕ) (v : List Float) (e : Float) (s : State) → Low s → Low (passes g v e s)
+  passes-low : (g : ℕ) (v : List Float) (e : Float) (s : Clipping) → Low s → Low (passes g v e s)
   unfolding passes
   passes-low zero v e s p = p
-  passes-low (suc g) v e s p = pick-low (ltb 3 (length (s .left))) (passes g v e (pass v e s)) s (passes-low g v e (pass v e s) (pass-low v e s p)) p
+  passes-low (suc g) v e s p = pick-low (ltb 3 (length (s .idx))) (passes g v e (pass v e s)) s (passes-low g v e (pass v e s) (pass-low v e s p)) p
 
-  finished-low : (v : List Float) (e : Float) (s : State) → Low s → Low (finished v e s)
+  finished-low : (v : List Float) (e : Float) (s : Clipping) → Low s → Low (finished v e s)
   unfolding finished
   finished-low v e s p =
-      pick-low (eqb (length (s .left)) 3 && lt e (cross (point v (getD (s .left) 0 0)) (point v (getD (s .left) 1 0)) (point v (getD (s .left) 2 0))))
-      (record { left = []; triangles = s .triangles ++ take 3 (s .left); removed = s .removed }) s
-      (record { left = tt; triangles = below-append (s .triangles) (take 3 (s .left)) (p .triangles) (below-take 3 (s .left) (p .left)) }) p
+      pick-low (eqb (length (s .idx)) 3 && lt e (cross (point v (getD (s .idx) 0 0)) (point v (getD (s .idx) 1 0)) (point v (getD (s .idx) 2 0))))
+      (record { idx = []; triangles = s .triangles ++ take 3 (s .idx); removed = s .removed }) s
+      (record { idx = tt; triangles = below-append (s .triangles) (take 3 (s .idx)) (p .triangles) (below-take 3 (s .idx) (p .idx)) }) p
 
   start-low : Low (start n)
   unfolding start
-  start-low = record { left = counting-below 0 n (omega arith); triangles = tt }
+  start-low = record { idx = counting-below 0 n (omega arith); triangles = tt }
 
   triangulated-low : (v : List Float) → Low (triangulated v n)
   unfolding triangulated
   triangulated-low v =
-      pick-low (ltb n 3) (record { left = []; triangles = []; removed = 0 }) (finished v (tolerance v) (passes (n * n) v (tolerance v) (start n)))
-      (record { left = tt; triangles = tt }) (finished-low v (tolerance v) (passes (n * n) v (tolerance v) (start n)) (passes-low (n * n) v (tolerance v) (start n) start-low))
+      pick-low (ltb n 3) (record { idx = []; triangles = []; removed = 0 }) (finished v (tolerance v) (passes (n * n) v (tolerance v) (start n)))
+      (record { idx = tt; triangles = tt }) (finished-low v (tolerance v) (passes (n * n) v (tolerance v) (start n)) (passes-low (n * n) v (tolerance v) (start n) start-low))
 
   tris-below : (l : List ℕ) → Below n l → BelowAll n (tris l)
   tris-below [] p = tt

@@ -19,13 +19,13 @@ use Rattle.outline.specs.Corners.{point}
 use Rattle.outline.specs.declared.Point.{Point}
 use Rattle.outline.specs.declared.Axes.{Axes}
 use Rattle.outline.specs.Axes.{planeAxes}
-use Rattle.outline.specs.Clean.{endsIn, pushedUnless, pushed, gathered, stay, cleanPolygon}
+use Rattle.outline.specs.Clean.{endsIn, pushed, gathered, stay, cleanPolygon}
 use Rattle.outline.specs.Area.{signedArea}
-use Rattle.outline.specs.Ccw.{swapped, reversed, pickCorners, ccwPolygon, prepared}
+use Rattle.outline.specs.Ccw.{swapped, reversed, ccwPolygon, prepared}
 use Rattle.outline.proofs.Copies.{length-reversed, length-swapped}
-use Rattle.outline_triangulate.specs.Triangulate.{State, triangulatePolygon}
+use Rattle.outline_triangulate.specs.Triangulate.{Clipping, triangulatePolygon}
 use Rattle.outline_triangulate.specs.declared.Cut.{Cut}
-use Rattle.outline_triangulate.specs.Slices.{Gives}
+use Rattle.outline_triangulate.specs.Slices.{CutAs}
 use Rattle.surface.specs.Within.{ExtrudedWithin, RotatedWithin}
 use Rattle.solid_spec.proofs.ArcLaws.{arcSegments-some, arcSegments-few}
 use Rattle.weld.specs.Rep.{Held, Ready, Runs}
@@ -43,7 +43,7 @@ use Rattle.solid_sweep.specs.Caps.{capOf, capsOf, turnSpan, turnOf}
 use Rattle.solid_sweep.proofs.Numbers.{BelowAll, caps-below}
 
 -- the cap triangles at the start of the slice that `triangulate_polygon` left
-pub caps-front : (s : State) (r : Cut) (b a : List ℕ) → Gives s r b a → take (3 * r .triangles) a ≡ s .triangles
+pub caps-front : (s : Clipping) (r : Cut) (b a : List ℕ) → CutAs s r b a → take (3 * r .triangles) a ≡ s .triangles
 caps-front s r b a G =
     ap (λ (n : ℕ). take n a) (sym (G .count)) ∙ ap (take (length (s .triangles))) (G .slice) ∙ take-append-seam (s .triangles) (drop (length (s .triangles)) b)
 
@@ -52,9 +52,9 @@ pushed-short : (o : List Float) (p : Point) → length (pushed o p) ≤ length o
 unfolding pushed
 pushed-short o p = go (endsIn o p)
   where
-    go : (b : Bool) → length (pushedUnless b o p) ≤ length o + 2
-    go true = unfold pushedUnless in omega arith
-    go false = unfold pushedUnless in omega (arith, length-append o (p .x ∷ p .y ∷ []))
+    go : (b : Bool) → length (cond b o (o ++ (p .x ∷ p .y ∷ []))) ≤ length o + 2
+    go true = omega arith
+    go false = omega (arith, length-append o (p .x ∷ p .y ∷ []))
 
 gathered-short : (o v : List Float) → length (gathered o v) ≤ length o + length v
 unfolding gathered
@@ -70,14 +70,14 @@ ccw-short : (v : List Float) → length (ccwPolygon v) ≤ length v
 unfolding ccwPolygon
 ccw-short v = go (lt (signedArea (cleanPolygon v)) (ofBits binary64 0))
   where
-    go : (b : Bool) → length (pickCorners b (reversed (cleanPolygon v)) (cleanPolygon v)) ≤ length v
-    go true = unfold pickCorners in omega (arith, length-reversed (cleanPolygon v), clean-short v)
-    go false = unfold pickCorners in clean-short v
+    go : (b : Bool) → length (cond b (reversed (cleanPolygon v)) (cleanPolygon v)) ≤ length v
+    go true = omega (arith, length-reversed (cleanPolygon v), clean-short v)
+    go false = clean-short v
 
 prepared-short : (swap : Bool) (v : List Float) → length (prepared swap v) ≤ length v
 unfolding prepared
-prepared-short true v = unfold pickCorners in omega (arith, ccw-short (swapped v), length-swapped v)
-prepared-short false v = unfold pickCorners in ccw-short v
+prepared-short true v = omega (arith, ccw-short (swapped v), length-swapped v)
+prepared-short false v = ccw-short v
 
 pub ccw-few : (v : List Float) (r : ℕ) → 2 * r ≡ length (ccwPolygon v) → length v ≤ 1024 → 2 * r ≤ 1024
 ccw-few v r e h = omega (arith, e, ccw-short v)

@@ -1,7 +1,7 @@
 -- The parts of each solid of demand 3 are balanced, so that its mesh is closed. Assumes nothing.
 use mathlib.Core.Path.{_≡_, refl, sym, ap, _∙_}
 use mathlib.Core.Logic.{_⊎_, inl, inr}
-use mathlib.Core.Bool.{Bool, true, false, _&&_}
+use mathlib.Core.Bool.{Bool, true, false, cond, _&&_}
 use mathlib.Core.List.{List, [], _∷_}
 use Prim.Native.Nat.{ℕ, _+_, _*_, _/_, _≤_, _<_}
 use native.Mathlib.Omega.{arith}
@@ -17,7 +17,7 @@ use Rattle.math.specs.Vec.{vFinite}
 use Rattle.mesh_balance_spec.specs.Buffer.{tris}
 use Rattle.outline.specs.Ccw.{ccwPolygon, prepared}
 use Rattle.outline_ears.specs.Ears.{tolerance}
-use Rattle.outline_triangulate.specs.Triangulate.{State, start, passes, pickState, finished, triangulated, triangulatePolygon}
+use Rattle.outline_triangulate.specs.Triangulate.{Clipping, start, passes, finished, triangulated, triangulatePolygon}
 use Rattle.outline_caps_law.specs.Edges.{Thirds, none, more}
 use Rattle.outline_caps_law.specs.Kept.{passes-kept, finished-kept}
 use Rattle.mesh_spec.specs.Mesh.{fromSoup, everyFinite}
@@ -45,16 +45,16 @@ use Rattle.tessellate_law.specs.Words.{FitsShape, UnequalBounds, EachUne
 
 -- `triangulate_polygon` gives whole triangles
 whole : (v : List Float) → Thirds (triangulatePolygon v .triangles)
-unfolding triangulatePolygon triangulated pickState start
+unfolding triangulatePolygon triangulated start
 whole v = go (ltb n 3)
   where
     n : ℕ
     n = length v / 2
 
-    s : State
+    s : Clipping
     s = passes (n * n) v (tolerance v) (start n)
 
-    go : (b : Bool) → Thirds (pickState b (record { left = []; triangles = []; removed = 0 }) (finished v (tolerance v) s) .triangles)
+    go : (b : Bool) → Thirds (cond b (record { idx = []; triangles = []; removed = 0 }) (finished v (tolerance v) s) .triangles)
     go true = none
     go false = finished-kept v (tolerance v) s .thirds (passes-kept (n * n) v (tolerance v) (start n) .thirds none)
 

@@ -13,9 +13,9 @@ use Rattle.root.specs.Sqrt.{sqrt}
 use Rattle.math.specs.declared.Vec3.{Vec3}
 use Rattle.math.specs.Vec.{axis, withAxis, vSub, vMin, vMax, dot, cross, normSq, norm}
 use Rattle.outline.specs.Corners.{point, same}
-use Rattle.outline.specs.Clean.{endsIn, pushedUnless, pushed, gathered, pickCount, stay, cleanPolygon}
-use Rattle.outline_ears.specs.Ears.{cross as turn, largest, scale, tolerance, within, blocks, any, blocked, before, after, earAt, turning, isEar, isFlat, pickFound, seek, firstEar, firstFlat}
-use Rattle.outline_triangulate.specs.Triangulate.{State, without, clipped, dropped, fans, fan, fanned, byFound, pass, pickState, passes, finished, counting, start, triangulated, triangulatePolygon}
+use Rattle.outline.specs.Clean.{endsIn, pushed, gathered, stay, cleanPolygon}
+use Rattle.outline_ears.specs.Ears.{cross as turn, largest, scale, tolerance, inTriangle, blocks, any, blocked, ip, inx, earAt, crossAt, isEar, isFlat, seek, firstEar, firstFlat}
+use Rattle.outline_triangulate.specs.Triangulate.{Clipping, without, clipped, dropped, fans, fan, fanned, byFound, pass, passes, finished, counting, start, triangulated, triangulatePolygon}
 use Rattle.mesh_spec.specs.Mesh.{Mesh, noMesh, plusZeroV, samePoint, firstSight, withPoint, weldTriangle, weldSoup, fromSoup, append, appendParts, fromParts}
 use Rattle.mesh_spec.specs.Measures.{triangleSoup, sumOf, volumeTerm, areaTerm, signedVolume, area}
 use Rattle.mesh_spec.specs.Closed.{Closed}
@@ -64,10 +64,10 @@ abbrev pub corners : List (ℕ × ℕ) → List Float
 corners [] = []
 corners (c ∷ cs) = float (c .0) ∷ float (c .1) ∷ corners cs
 
-abbrev pub square : State
+abbrev pub square : Clipping
 square = triangulatePolygon (corners ((0, 0) ∷ (1, 0) ∷ (1, 1) ∷ (0, 1) ∷ []))
 
-abbrev pub line : State
+abbrev pub line : Clipping
 line = triangulatePolygon (corners ((0, 0) ∷ (1, 0) ∷ (2, 0) ∷ (3, 0) ∷ []))
 
 -- ---- the table
@@ -121,9 +121,9 @@ unfoldable areas : Mesh → Float
 unfolding area triangleSoup sumOf areaTerm vSub cross norm normSq dot sqrt add sub mul div ofInt ofBits
 areas = area
 
-unfoldable clips : List Float → State
-unfolding triangulatePolygon triangulated pickState passes finished start pass byFound fanned dropped clipped without fan fans counting
-    firstEar firstFlat isEar isFlat earAt turning blocked blocks within turn tolerance scale largest any seek pickFound before after
+unfoldable clips : List Float → Clipping
+unfolding triangulatePolygon triangulated passes finished start pass byFound fanned dropped clipped without fan fans counting
+    firstEar firstFlat isEar isFlat earAt crossAt blocked blocks inTriangle turn tolerance scale largest any seek ip inx
     point same maximum absolute isNan eq lt le neg add sub mul ofInt ofBits
 clips = triangulatePolygon
 
@@ -168,14 +168,14 @@ open-is : Closed flatMesh → ⊥
 open-is c = let h : _≡_ {A = ℕ} 1 0 = c 0 1 in omega (arith, h)
 
 cleans : cleanPolygon (corners ((0, 0) ∷ (0, 0) ∷ (1, 0) ∷ (1, 1) ∷ (0, 0) ∷ [])) ≡ corners ((0, 0) ∷ (1, 0) ∷ (1, 1) ∷ [])
-unfolding cleanPolygon gathered pushed pushedUnless endsIn stay pickCount point same eq ofInt
+unfolding cleanPolygon gathered pushed endsIn stay point same eq ofInt
 cleans = refl
 
-square-is : square ≡ record { left = []; triangles = 3 ∷ 0 ∷ 1 ∷ 1 ∷ 2 ∷ 3 ∷ []; removed = 1 }
+square-is : square ≡ record { idx = []; triangles = 3 ∷ 0 ∷ 1 ∷ 1 ∷ 2 ∷ 3 ∷ []; removed = 1 }
 unfolding clips
 square-is = refl
 
-line-is : line ≡ record { left = 1 ∷ 2 ∷ 3 ∷ []; triangles = []; removed = 1 }
+line-is : line ≡ record { idx = 1 ∷ 2 ∷ 3 ∷ []; triangles = []; removed = 1 }
 unfolding clips
 line-is = refl
 
@@ -228,10 +228,10 @@ figures = record {
   flat-area = ap area flat-is ∙ flat-area-is;
   flat-open = λ c. open-is (subst Closed flat-is c);
   cleans-to-three = cleans;
-  square-triangles = ap (λ (s : State). s .triangles) square-is;
-  square-removed = ap (λ (s : State). s .removed) square-is;
-  line-triangles = ap (λ (s : State). s .triangles) line-is;
-  line-removed = ap (λ (s : State). s .removed) line-is;
+  square-triangles = ap (λ (s : Clipping). s .triangles) square-is;
+  square-removed = ap (λ (s : Clipping). s .removed) square-is;
+  line-triangles = ap (λ (s : Clipping). s .triangles) line-is;
+  line-removed = ap (λ (s : Clipping). s .removed) line-is;
   two-corners = two-is;
   span-zero = zero-span;
   span-pi = pi-span;

@@ -2,7 +2,7 @@
 -- `Closed`, `NoneTwice` and `AllThere` of a mesh are in crate mesh_spec, specs/Closed.antt; the lists of calls in crate mesh, specs/Lists.antt.
 use mathlib.Core.Path.{_≡_}
 use mathlib.Core.Logic.{_⊎_}
-use mathlib.Core.Bool.{true, false}
+use mathlib.Core.Bool.{true, false, cond}
 use mathlib.Core.List.{List}
 use Prim.Native.Nat.{ℕ, _+_, _-_, _*_, _/_, _<_}
 use lib.Dec.{T}
@@ -12,7 +12,7 @@ use Rattle.ieee.specs.Number.{plusZero, absolute, maximum}
 use Rattle.math.specs.declared.Vec3.{Vec3}
 use Rattle.refusal.specs.declared.Refusal.the-variants.{Accepted}
 use Rattle.outline.specs.Clean.{cleanPolygon}
-use Rattle.outline.specs.Ccw.{pickCorners, swapped, ccwPolygon, prepared}
+use Rattle.outline.specs.Ccw.{swapped, ccwPolygon, prepared}
 use Rattle.mesh_spec.specs.Mesh.{Mesh}
 use Rattle.solid_spec.specs.Boxes.{isFull, pointAt}
 use Rattle.solid_spec.specs.Cylinder.{innerRadius, outerRadius}
@@ -100,7 +100,7 @@ Capped p n = length (capTriangles p) ≡ n - 2
 
 -- the corners of a rotated outline in (radial, axial) coordinates, the `rh` of `rotpoly`
 abbrev pub radial : ℕ → ℕ → List Float → List Float
-radial axis normal v = pickCorners (swaps axis normal) (swapped v) v
+radial axis normal v = cond (swaps axis normal) (swapped v) v
 
 -- the solids of demand 3, with what it asks of each. A polygon is a sheet and not in its list
 abbrev pub Solid : Shape → List Float → Type 0

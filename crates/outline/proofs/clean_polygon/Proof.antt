@@ -1,7 +1,7 @@
 -- `outline::clean_polygon` meets its contract. Assumes nothing.
 use lib.ListN.{length}
 use denote.Ref.{now}
-use mathlib.Core.Path.{_≡_, refl, sym, ap, _∙_}
+use mathlib.Core.Path.{_≡_, _∙_}
 use native.Mathlib.Omega.{arith}
 use Prim.Native.Nat.{_*_, _≤_}
 use Rattle.outline.proofs.Laws.{cleaned-is}

@@ -1,8 +1,7 @@
 -- `outline_clip::clip_outline` meets its contract. Assumes nothing.
 use denote.Ref.{now}
-use mathlib.Core.Path.{_≡_, refl, sym, ap, _∙_}
+use mathlib.Core.Path.{_≡_, sym, _∙_}
 use native.Mathlib.Omega.{arith}
-use Prim.Native.Nat.{_*_, _<_, _≤_, _/_}
 use lib.ListN.{length}
 use lib.Ieee.Scale.{finite}
 use borrow.Author.Tests.{not-true, not-false}

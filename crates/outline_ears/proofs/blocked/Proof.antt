@@ -1,7 +1,6 @@
 -- `outline_ears::blocked` meets its contract. Assumes nothing.
 use denote.Ref.{now}
-use mathlib.Core.Path.{_≡_, refl, sym, ap, _∙_}
-use mathlib.Core.Bool.{true, false}
+use mathlib.Core.Path.{_≡_, sym, _∙_}
 use native.Mathlib.Omega.{arith}
 use Prim.Native.Nat.{_≤_, _-_}
 use lib.ListN.{take, drop}
@@ -11,10 +10,10 @@ use Rattle.outline_ears.proofs.blocked.Statement.{statement}
 use Rattle.outline_ears.proofs.blocked.Tie as tie
 
 abbrev Inv-loop : tie.InvT-loop
-Inv-loop corners e t at n q₀ q = (q ≤ n) × (any (blocks corners e t) (drop q (take n at)) ≡ blocked corners e t (take n at))
+Inv-loop v eps t idx m q₀ q = (q ≤ m) × (any (blocks v eps t) (drop q (take m idx)) ≡ blocked v eps t (take m idx))
 
 abbrev μ-loop : tie.MeasureT-loop
-μ-loop corners e t at n q₀ q = n - q
+μ-loop v eps t idx m q₀ q = m - q
 
 loop-holds : tie.Need-loop-holds Inv-loop μ-loop
 loop-holds c = (omega arith, blocked-is _ _ _ _)
@@ -32,7 +31,7 @@ returns : tie.Need-returns Inv-loop μ-loop
 returns c =
     let d = c .before .before .before .before .before .before in
     let l = c .before .before .before .before .loop in
-    any-here (now (d .args .corners)) (now (d .args .at)) (d .args .n) (d .pre) _ (l .q) (c .before .before .before .loop-test .taken) (sym (c .before .blocks2 .ensures) ∙ c .if1 .taken)
+    any-here (now (d .args .v)) (now (d .args .idx)) (d .args .m) (d .pre) _ (l .q) (c .before .before .before .loop-test .taken) (sym (c .before .blocks2 .ensures) ∙ c .if1 .taken)
     ∙ l .inv .1
 
 add-q : tie.Need-add-q Inv-loop μ-loop
@@ -46,7 +45,7 @@ loop-again c =
     let d = c .before .before .before .before .before .before in
     let l = c .before .before .before .before .loop in (
       omega arith,
-      any-on (now (d .args .corners)) (now (d .args .at)) (d .args .n) (d .pre) _ (l .q) (c .before .before .before .loop-test .taken)
+      any-on (now (d .args .v)) (now (d .args .idx)) (d .args .m) (d .pre) _ (l .q) (c .before .before .before .loop-test .taken)
           (sym (c .before .blocks2 .ensures) ∙ c .if1 .left) ∙ l .inv .1,
     )
 
@@ -54,7 +53,7 @@ returns-2 : tie.Need-returns-2 Inv-loop μ-loop
 returns-2 c =
     let d = c .before .before .before in
     let l = c .before .loop in
-    sym (any-none (now (d .args .corners)) (now (d .args .at)) (d .args .n) (d .pre) _ (l .q) (c .loop-test .left)) ∙ l .inv .1
+    sym (any-none (now (d .args .v)) (now (d .args .idx)) (d .args .m) (d .pre) _ (l .q) (c .loop-test .left)) ∙ l .inv .1
 
 pub blocked-spec : {M : Type 1} → statement M
 blocked-spec =

@@ -1,38 +1,38 @@
 -- `outline_ears::blocks` meets its contract. Assumes nothing.
 use denote.Ref.{now}
 use borrow.Author.Tests.{not-true, not-false}
-use Rattle.outline_ears.proofs.Laws.{within-at, same-at, blocks-outside, blocks-before, blocks-at, blocks-after, blocks-a, blocks-b, blocks-c, blocks-all}
+use Rattle.outline_ears.proofs.Laws.{inTriangle-at, same-at, blocks-outside, blocks-ip, blocks-ic, blocks-inx, blocks-a, blocks-b, blocks-c, blocks-all}
 use borrow.Author.Needs.{needs}
 use Rattle.outline_ears.proofs.blocks.Statement.{statement}
 use Rattle.outline_ears.proofs.blocks.Tie as tie
 
-place-requires : tie.Need-place-requires
-place-requires c κs = search needs
+point-of-requires : tie.Need-point-of-requires
+point-of-requires c κs = search needs
 
-within-requires : tie.Need-within-requires
-within-requires c κs = search needs
+in-triangle-requires : tie.Need-in-triangle-requires
+in-triangle-requires c κs = search needs
 
 returns : tie.Need-returns
 returns c =
     let a = c .before .before .before .before .args in
-    let v = now (a .corners) in
-    let w = within-at v (a .o) (c .before .before .place .ensures) (a .e) (a .t .a) (a .t .b) (a .t .c) (c .before .within .ensures) (not-true _ (c .if1 .taken)) in
-    blocks-outside v (a .e) (a .t) (a .o) w
+    let v = now (a .v) in
+    let w = inTriangle-at v (a .o) (c .before .before .point-of .ensures) (a .eps) (a .t .a) (a .t .b) (a .t .c) (c .before .in-triangle .ensures) (not-true _ (c .if1 .taken)) in
+    blocks-outside v (a .eps) (a .t) (a .o) w
 
 returns-2 : tie.Need-returns-2
 returns-2 c =
     let a = c .before .before .before .before .before .before .args in
-    blocks-before (now (a .corners)) (a .e) (a .t) (a .o) (c .if2 .taken)
+    blocks-ip (now (a .v)) (a .eps) (a .t) (a .o) (c .if2 .taken)
 
 returns-3 : tie.Need-returns-3
 returns-3 c =
     let a = c .before .before .before .before .before .before .before .before .args in
-    blocks-at (now (a .corners)) (a .e) (a .t) (a .o) (c .before .before .if2 .left) (c .if3 .taken)
+    blocks-ic (now (a .v)) (a .eps) (a .t) (a .o) (c .before .before .if2 .left) (c .if3 .taken)
 
 returns-4 : tie.Need-returns-4
 returns-4 c =
     let a = c .before .before .before .before .before .before .before .before .before .before .args in
-    blocks-after (now (a .corners)) (a .e) (a .t) (a .o) (c .before .before .before .before .if2 .left) (c .before .before .if3 .left) (c .if4 .taken)
+    blocks-inx (now (a .v)) (a .eps) (a .t) (a .o) (c .before .before .before .before .if2 .left) (c .before .before .if3 .left) (c .if4 .taken)
 
 same-requires : tie.Need-same-requires
 same-requires c κs = search needs
@@ -42,9 +42,9 @@ returns-5 c =
     let l = c .before .before in
     let s = l .before .before .before .before .before .before .before .before in
     let a = s .before .before .args in
-    let v = now (a .corners) in
-    let sa = same-at v (a .o) (s .place .ensures) (a .t .a) (c .before .same .ensures) (c .if5 .taken) in
-    blocks-a v (a .e) (a .t) (a .o) (l .before .before .before .before .if2 .left) (l .before .before .if3 .left) (l .if4 .left) sa
+    let v = now (a .v) in
+    let sa = same-at v (a .o) (s .point-of .ensures) (a .t .a) (c .before .same .ensures) (c .if5 .taken) in
+    blocks-a v (a .eps) (a .t) (a .o) (l .before .before .before .before .if2 .left) (l .before .before .if3 .left) (l .if4 .left) sa
 
 same-requires-2 : tie.Need-same-requires-2
 same-requires-2 c κs = search needs
@@ -54,10 +54,10 @@ returns-6 c =
     let l = c .before .before .before .before in
     let s = l .before .before .before .before .before .before .before .before in
     let a = s .before .before .args in
-    let v = now (a .corners) in
-    let sa = same-at v (a .o) (s .place .ensures) (a .t .a) (c .before .before .before .same .ensures) (c .before .before .if5 .left) in
-    let sb = same-at v (a .o) (s .place .ensures) (a .t .b) (c .before .same2 .ensures) (c .if6 .taken) in
-    blocks-b v (a .e) (a .t) (a .o) (l .before .before .before .before .if2 .left) (l .before .before .if3 .left) (l .if4 .left) sa sb
+    let v = now (a .v) in
+    let sa = same-at v (a .o) (s .point-of .ensures) (a .t .a) (c .before .before .before .same .ensures) (c .before .before .if5 .left) in
+    let sb = same-at v (a .o) (s .point-of .ensures) (a .t .b) (c .before .same2 .ensures) (c .if6 .taken) in
+    blocks-b v (a .eps) (a .t) (a .o) (l .before .before .before .before .if2 .left) (l .before .before .if3 .left) (l .if4 .left) sa sb
 
 same-requires-3 : tie.Need-same-requires-3
 same-requires-3 c κs = search needs
@@ -67,31 +67,31 @@ returns-7 c =
     let l = c .before .before .before .before .before .before in
     let s = l .before .before .before .before .before .before .before .before in
     let a = s .before .before .args in
-    let v = now (a .corners) in
-    let sa = same-at v (a .o) (s .place .ensures) (a .t .a) (c .before .before .before .before .before .same .ensures) (c .before .before .before .before .if5 .left) in
-    let sb = same-at v (a .o) (s .place .ensures) (a .t .b) (c .before .before .before .same2 .ensures) (c .before .before .if6 .left) in
-    let sc = same-at v (a .o) (s .place .ensures) (a .t .c) (c .before .same3 .ensures) (c .if7 .taken) in
-    blocks-c v (a .e) (a .t) (a .o) (l .before .before .before .before .if2 .left) (l .before .before .if3 .left) (l .if4 .left) sa sb sc
+    let v = now (a .v) in
+    let sa = same-at v (a .o) (s .point-of .ensures) (a .t .a) (c .before .before .before .before .before .same .ensures) (c .before .before .before .before .if5 .left) in
+    let sb = same-at v (a .o) (s .point-of .ensures) (a .t .b) (c .before .before .before .same2 .ensures) (c .before .before .if6 .left) in
+    let sc = same-at v (a .o) (s .point-of .ensures) (a .t .c) (c .before .same3 .ensures) (c .if7 .taken) in
+    blocks-c v (a .eps) (a .t) (a .o) (l .before .before .before .before .if2 .left) (l .before .before .if3 .left) (l .if4 .left) sa sb sc
 
 returns-8 : tie.Need-returns-8
 returns-8 c =
     let l = c .before .before .before .before .before .before in
     let s = l .before .before .before .before .before .before .before .before in
     let a = s .before .before .args in
-    let v = now (a .corners) in
-    let sa = same-at v (a .o) (s .place .ensures) (a .t .a) (c .before .before .before .before .before .same .ensures) (c .before .before .before .before .if5 .left) in
-    let sb = same-at v (a .o) (s .place .ensures) (a .t .b) (c .before .before .before .same2 .ensures) (c .before .before .if6 .left) in
-    let sc = same-at v (a .o) (s .place .ensures) (a .t .c) (c .before .same3 .ensures) (c .if7 .left) in
-    let w = within-at v (a .o) (s .place .ensures) (a .e) (a .t .a) (a .t .b) (a .t .c) (l .before .before .before .before .before .before .before .within .ensures)
+    let v = now (a .v) in
+    let sa = same-at v (a .o) (s .point-of .ensures) (a .t .a) (c .before .before .before .before .before .same .ensures) (c .before .before .before .before .if5 .left) in
+    let sb = same-at v (a .o) (s .point-of .ensures) (a .t .b) (c .before .before .before .same2 .ensures) (c .before .before .if6 .left) in
+    let sc = same-at v (a .o) (s .point-of .ensures) (a .t .c) (c .before .same3 .ensures) (c .if7 .left) in
+    let w = inTriangle-at v (a .o) (s .point-of .ensures) (a .eps) (a .t .a) (a .t .b) (a .t .c) (l .before .before .before .before .before .before .before .in-triangle .ensures)
     (not-false _ (l .before .before .before .before .before .before .if1 .left)) in
-    blocks-all v (a .e) (a .t) (a .o) (l .before .before .before .before .if2 .left) (l .before .before .if3 .left) (l .if4 .left) sa sb sc w
+    blocks-all v (a .eps) (a .t) (a .o) (l .before .before .before .before .if2 .left) (l .before .before .if3 .left) (l .if4 .left) sa sb sc w
 
 pub blocks-spec : {M : Type 1} → statement M
 blocks-spec =
     tie.close
     (tie.spec
-    place-requires
-    within-requires
+    point-of-requires
+    in-triangle-requires
     returns
     returns-2
     returns-3

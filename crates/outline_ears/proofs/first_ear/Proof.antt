@@ -1,6 +1,6 @@
 -- `outline_ears::first_ear` meets its contract. Assumes nothing.
 use denote.Ref.{now}
-use mathlib.Core.Path.{_≡_, refl, sym, ap, _∙_}
+use mathlib.Core.Path.{_≡_, sym, _∙_}
 use native.Mathlib.Omega.{arith}
 use Prim.Native.Nat.{_≤_, _-_}
 use lib.ListN.{take}
@@ -10,13 +10,13 @@ use Rattle.outline_ears.proofs.first_ear.Statement.{statement}
 use Rattle.outline_ears.proofs.first_ear.Tie as tie
 
 abbrev Inv-loop : tie.InvT-loop
-Inv-loop corners e at n k₀ k = (k ≤ n) × (seek (isEar corners e (take n at)) (n - k) k ≡ firstEar corners e (take n at))
+Inv-loop v eps idx m k₀ k = (k ≤ m) × (seek (isEar v eps (take m idx)) (m - k) k ≡ firstEar v eps (take m idx))
 
 abbrev μ-loop : tie.MeasureT-loop
-μ-loop corners e at n k₀ k = n - k
+μ-loop v eps idx m k₀ k = m - k
 
 loop-holds : tie.Need-loop-holds Inv-loop μ-loop
-loop-holds c = let d = c .before in (omega arith, firstEar-is (now (d .args .corners)) (now (d .args .at)) (d .args .n) (d .pre) (d .args .e))
+loop-holds c = let d = c .before in (omega arith, firstEar-is (now (d .args .v)) (now (d .args .idx)) (d .args .m) (d .pre) (d .args .eps))
 
 is-ear-requires : tie.Need-is-ear-requires Inv-loop μ-loop
 is-ear-requires c κs = (c .loop-test .taken, c .before .before .before .pre)
@@ -25,8 +25,8 @@ returns : tie.Need-returns Inv-loop μ-loop
 returns c =
     let d = c .before .before .before .before .before in
     let l = c .before .before .before .loop in
-    let p = isEar (now (d .args .corners)) (d .args .e) (take (d .args .n) (now (d .args .at))) in
-    sym (seek-here p (d .args .n) (l .k) (c .before .before .loop-test .taken) (sym (c .before .is-ear .ensures) ∙ c .if1 .taken)) ∙ l .inv .1
+    let p = isEar (now (d .args .v)) (d .args .eps) (take (d .args .m) (now (d .args .idx))) in
+    sym (seek-here p (d .args .m) (l .k) (c .before .before .loop-test .taken) (sym (c .before .is-ear .ensures) ∙ c .if1 .taken)) ∙ l .inv .1
 
 add-k : tie.Need-add-k Inv-loop μ-loop
 add-k c = omega (arith, c .before .before .before .before .before .pre .small)
@@ -38,14 +38,14 @@ loop-again : tie.Need-loop-again Inv-loop μ-loop
 loop-again c =
     let d = c .before .before .before .before .before in
     let l = c .before .before .before .loop in
-    let p = isEar (now (d .args .corners)) (d .args .e) (take (d .args .n) (now (d .args .at))) in
-    (omega arith, seek-on p (d .args .n) (l .k) (c .before .before .loop-test .taken) (sym (c .before .is-ear .ensures) ∙ c .if1 .left) ∙ l .inv .1)
+    let p = isEar (now (d .args .v)) (d .args .eps) (take (d .args .m) (now (d .args .idx))) in
+    (omega arith, seek-on p (d .args .m) (l .k) (c .before .before .loop-test .taken) (sym (c .before .is-ear .ensures) ∙ c .if1 .left) ∙ l .inv .1)
 
 returns-2 : tie.Need-returns-2 Inv-loop μ-loop
 returns-2 c =
     let d = c .before .before .before in
     let l = c .before .loop in
-    sym (seek-end (isEar (now (d .args .corners)) (d .args .e) (take (d .args .n) (now (d .args .at)))) (d .args .n) (l .k) (c .loop-test .left)) ∙ l .inv .1
+    sym (seek-end (isEar (now (d .args .v)) (d .args .eps) (take (d .args .m) (now (d .args .idx)))) (d .args .m) (l .k) (c .loop-test .left)) ∙ l .inv .1
 
 pub first-ear-spec : {M : Type 1} → statement M
 first-ear-spec =

@@ -1,6 +1,6 @@
 -- `outline_ears::first_flat` meets its contract. Assumes nothing.
 use denote.Ref.{now}
-use mathlib.Core.Path.{_≡_, refl, sym, ap, _∙_}
+use mathlib.Core.Path.{_≡_, sym, _∙_}
 use native.Mathlib.Omega.{arith}
 use Prim.Native.Nat.{_≤_, _-_}
 use lib.ListN.{take}
@@ -10,13 +10,13 @@ use Rattle.outline_ears.proofs.first_flat.Statement.{statement}
 use Rattle.outline_ears.proofs.first_flat.Tie as tie
 
 abbrev Inv-loop : tie.InvT-loop
-Inv-loop corners e at n k₀ k = (k ≤ n) × (seek (isFlat corners e (take n at)) (n - k) k ≡ firstFlat corners e (take n at))
+Inv-loop v eps idx m k₀ k = (k ≤ m) × (seek (isFlat v eps (take m idx)) (m - k) k ≡ firstFlat v eps (take m idx))
 
 abbrev μ-loop : tie.MeasureT-loop
-μ-loop corners e at n k₀ k = n - k
+μ-loop v eps idx m k₀ k = m - k
 
 loop-holds : tie.Need-loop-holds Inv-loop μ-loop
-loop-holds c = let d = c .before in (omega arith, firstFlat-is (now (d .args .corners)) (now (d .args .at)) (d .args .n) (d .pre) (d .args .e))
+loop-holds c = let d = c .before in (omega arith, firstFlat-is (now (d .args .v)) (now (d .args .idx)) (d .args .m) (d .pre) (d .args .eps))
 
 ear-at-requires : tie.Need-ear-at-requires Inv-loop μ-loop
 ear-at-requires c κs = (c .loop-test .taken, c .before .before .before .pre)
@@ -31,12 +31,12 @@ returns : tie.Need-returns Inv-loop μ-loop
 returns c =
     let d = c .before .before .before .before .before .before .before in
     let l = c .before .before .before .before .before .loop in
-    let p = isFlat (now (d .args .corners)) (d .args .e) (take (d .args .n) (now (d .args .at))) in
-    sym (seek-here p (d .args .n) (l .j) (c .before .before .before .before .loop-test .taken)
+    let p = isFlat (now (d .args .v)) (d .args .eps) (take (d .args .m) (now (d .args .idx))) in
+    sym (seek-here p (d .args .m) (l .k) (c .before .before .before .before .loop-test .taken)
     (sym (isFlat-is _ _ _ _ _ (c .before .before .before .ear-at .ensures) _ (c .before .before .cross .ensures) (c .before .abs .ensures)) ∙ c .if1 .taken)) ∙ l .inv .1
 
-add-j : tie.Need-add-j Inv-loop μ-loop
-add-j c = omega (arith, c .before .before .before .before .before .before .before .pre .small)
+add-k : tie.Need-add-k Inv-loop μ-loop
+add-k c = omega (arith, c .before .before .before .before .before .before .before .pre .small)
 
 loop-less : tie.Need-loop-less Inv-loop μ-loop
 loop-less c = omega arith
@@ -45,9 +45,9 @@ loop-again : tie.Need-loop-again Inv-loop μ-loop
 loop-again c =
     let d = c .before .before .before .before .before .before .before in
     let l = c .before .before .before .before .before .loop in
-    let p = isFlat (now (d .args .corners)) (d .args .e) (take (d .args .n) (now (d .args .at))) in (
+    let p = isFlat (now (d .args .v)) (d .args .eps) (take (d .args .m) (now (d .args .idx))) in (
       omega arith,
-      seek-on p (d .args .n) (l .j) (c .before .before .before .before .loop-test .taken)
+      seek-on p (d .args .m) (l .k) (c .before .before .before .before .loop-test .taken)
           (sym (isFlat-is _ _ _ _ _ (c .before .before .before .ear-at .ensures) _ (c .before .before .cross .ensures) (c .before .abs .ensures)) ∙ c .if1 .left) ∙ l .inv .1,
     )
 
@@ -55,7 +55,7 @@ returns-2 : tie.Need-returns-2 Inv-loop μ-loop
 returns-2 c =
     let d = c .before .before .before in
     let l = c .before .loop in
-    sym (seek-end (isFlat (now (d .args .corners)) (d .args .e) (take (d .args .n) (now (d .args .at)))) (d .args .n) (l .j) (c .loop-test .left)) ∙ l .inv .1
+    sym (seek-end (isFlat (now (d .args .v)) (d .args .eps) (take (d .args .m) (now (d .args .idx)))) (d .args .m) (l .k) (c .loop-test .left)) ∙ l .inv .1
 
 pub first-flat-spec : {M : Type 1} → statement M
 first-flat-spec =
@@ -68,7 +68,7 @@ first-flat-spec =
     cross-requires
     abs-requires
     returns
-    add-j
+    add-k
     loop-less
     loop-again
     returns-2)

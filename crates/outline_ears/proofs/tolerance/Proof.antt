@@ -12,10 +12,10 @@ use Rattle.outline_ears.proofs.tolerance.Statement.{statement}
 use Rattle.outline_ears.proofs.tolerance.Tie as tie
 
 abbrev Inv-loop : tie.InvT-loop
-Inv-loop corners m₀ i₀ m i = (i ≤ length corners) × (largest m (drop i corners) ≡ largest m₀ corners)
+Inv-loop v m₀ i₀ m i = (i ≤ length v) × (largest m (drop i v) ≡ largest m₀ v)
 
 abbrev μ-loop : tie.MeasureT-loop
-μ-loop corners m₀ i₀ m i = length corners - i
+μ-loop v m₀ i₀ m i = length v - i
 
 loop-holds : tie.Need-loop-holds Inv-loop μ-loop
 loop-holds c = (omega arith, refl)
@@ -43,8 +43,8 @@ loop-again c =
     let a = c .before .before .before .before .before .before .args in
     let l = c .before .before .before .before .loop in (
       omega arith,
-      ap (λ (m : Float). largest m (drop (l .i + 1) (now (a .corners)))) (c .max .ensures ∙ ap (maximum (l .m)) (c .before .abs .ensures))
-          ∙ sym (largest-next (l .m) (now (a .corners)) (l .i) (c .before .before .before .loop-test .taken))
+      ap (λ (m : Float). largest m (drop (l .i + 1) (now (a .v)))) (c .max .ensures ∙ ap (maximum (l .m)) (c .before .abs .ensures))
+          ∙ sym (largest-next (l .m) (now (a .v)) (l .i) (c .before .before .before .loop-test .taken))
           ∙ l .inv .1,
     )
 
@@ -56,8 +56,8 @@ unfolding tolerance scale
 returns c =
     let a = c .before .before .before .before .args in
     let l = c .before .before .loop in
-    let e : c .max2 .result ≡ maximum (largest (ofBits binary64 0) (now (a .corners))) (ofBits binary64 0x01a5_6e1f_c2f8_f359) =
-    c .max2 .ensures ∙ ap (λ (m : Float). maximum m (ofBits binary64 0x01a5_6e1f_c2f8_f359)) (sym (largest-end (l .m) (now (a .corners)) (l .i) (c .before .loop-test .left)) ∙ l .inv .1) in
+    let e : c .max2 .result ≡ maximum (largest (ofBits binary64 0) (now (a .v))) (ofBits binary64 0x01a5_6e1f_c2f8_f359) =
+    c .max2 .ensures ∙ ap (λ (m : Float). maximum m (ofBits binary64 0x01a5_6e1f_c2f8_f359)) (sym (largest-end (l .m) (now (a .v)) (l .i) (c .before .loop-test .left)) ∙ l .inv .1) in
     ap (λ (s : Float). mul binary64 (mul binary64 (ofBits binary64 0x3d71_9799_812d_ea11) s) s) e
 
 pub tolerance-spec : {M : Type 1} → statement M

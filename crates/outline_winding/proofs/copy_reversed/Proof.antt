@@ -1,9 +1,7 @@
 -- `outline_winding::copy_reversed` meets its contract. Assumes nothing.
 use denote.Ref.{now}
-use mathlib.Core.Path.{_≡_, refl, sym, ap, _∙_}
 use native.Mathlib.Omega.{arith}
 use Prim.Native.Nat.{_≤_, _-_}
-use Rattle.outline.specs.Ccw.{reversed}
 use Rattle.outline.proofs.Copies.{Reversing, reversing-start, reversing-next, reversing-end}
 use Rattle.outline_winding.proofs.copy_reversed.Statement.{statement}
 use Rattle.outline_winding.proofs.copy_reversed.Tie as tie

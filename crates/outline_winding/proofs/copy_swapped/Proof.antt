@@ -1,10 +1,9 @@
 -- `outline_winding::copy_swapped` meets its contract. Assumes nothing.
 use denote.Ref.{now}
-use mathlib.Core.Path.{_≡_, refl, sym, ap, _∙_}
+use mathlib.Core.Path.{_≡_, refl}
 use native.Mathlib.Omega.{arith}
 use Prim.Native.Nat.{_≤_, _-_, _/_}
 use lib.ListN.{length}
-use Rattle.outline.specs.Ccw.{swapped}
 use Rattle.outline.proofs.Copies.{Swapping, swapping-start, swapping-next, swapping-end}
 use Rattle.outline_winding.proofs.copy_swapped.Statement.{statement}
 use Rattle.outline_winding.proofs.copy_swapped.Tie as tie

@@ -1,9 +1,8 @@
 -- `outline_winding::prepare` meets its contract. Assumes nothing.
 use denote.Ref.{now}
-use mathlib.Core.Path.{_≡_, refl, sym, ap, _∙_}
+use mathlib.Core.Path.{sym}
 use native.Mathlib.Omega.{arith}
-use Prim.Native.Nat.{_≤_, _*_}
-use lib.ListN.{length}
+use Prim.Native.Nat.{_*_}
 use lib.Seq.{length-take-le}
 use Rattle.outline.proofs.Copies.{copied-short, copied-take, prepared-swapped, prepared-as-given, prepared-is}
 -- `outline_winding::prepare` meets its contract. Assumes nothing.
@@ -17,11 +16,11 @@ slice-aggregate-copy-swapped c = search needs
 copy-swapped-requires : tie.Need-copy-swapped-requires
 copy-swapped-requires c κs = search needs
 
-mul-held : tie.Need-mul-held
-mul-held c = omega (arith, copied-short _ _ _ _ (c .before .copy-swapped .ensures))
+mul-swapped : tie.Need-mul-swapped
+mul-swapped c = omega (arith, copied-short _ _ _ _ (c .before .copy-swapped .ensures))
 
-array-share-prefix-held : tie.Need-array-share-prefix-held
-array-share-prefix-held c = omega (arith, copied-short _ _ _ _ (c .before .copy-swapped .ensures))
+array-share-prefix-swapped : tie.Need-array-share-prefix-swapped
+array-share-prefix-swapped c = omega (arith, copied-short _ _ _ _ (c .before .copy-swapped .ensures))
 
 slice-aggregate-ccw-polygon : tie.Need-slice-aggregate-ccw-polygon
 slice-aggregate-ccw-polygon c =
@@ -54,8 +53,8 @@ prepare-spec =
     (tie.spec
     slice-aggregate-copy-swapped
     copy-swapped-requires
-    mul-held
-    array-share-prefix-held
+    mul-swapped
+    array-share-prefix-swapped
     slice-aggregate-ccw-polygon
     ccw-polygon-requires
     returns

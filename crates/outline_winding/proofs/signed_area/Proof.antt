@@ -1,6 +1,6 @@
 -- `outline_winding::signed_area` meets its contract. Assumes nothing.
 use denote.Ref.{now}
-use mathlib.Core.Path.{_≡_, refl, sym, ap, _∙_}
+use mathlib.Core.Path.{_≡_, sym, ap, _∙_}
 use native.Mathlib.Omega.{arith}
 use Prim.Native.Nat.{_≤_, _-_, _+_, _/_, _%_}
 use native.Mathlib.Nat.{mod-lt, sub-zero}

@@ -10,7 +10,7 @@ use Rattle.outline_triangulate.proofs.lists.counting.Statement.{stateme
 use Rattle.outline_triangulate.proofs.lists.counting.Tie as tie
 
 abbrev Inv-loop : tie.InvT-loop
-Inv-loop n out₀ i₀ out i = (i ≤ n) × (out .n ≡ n) × (length (out .at) ≡ 512) × (take i (out .at) ≡ counting 0 i)
+Inv-loop n out₀ i₀ out i = (i ≤ n) × (out .m ≡ n) × (length (out .idx) ≡ 512) × (take i (out .idx) ≡ counting 0 i)
 
 abbrev μ-loop : tie.MeasureT-loop
 μ-loop n out₀ i₀ out i = n - i
@@ -36,15 +36,15 @@ loop-less c = omega arith
 loop-again : tie.Need-loop-again Inv-loop μ-loop
 loop-again c =
     let l = c .before .loop in
-    (omega arith, l .inv .1, simp length-set (l .inv .2), count-step (l .out .at) (l .i) (omega arith) (l .inv .3))
+    (omega arith, l .inv .1, simp length-set (l .inv .2), count-step (l .out .idx) (l .i) (omega arith) (l .inv .3))
 
 returns : tie.Need-returns Inv-loop μ-loop
 returns c =
     let l = c .before .loop in
     let n = c .before .before .args .n in
     let e : l .i ≡ n = omega arith in
-    let e₁ : l .out .n ≡ l .i = omega arith in
-    (l .inv .1, l .inv .2, ap (λ (j : ℕ). take j (l .out .at)) e₁ ∙ l .inv .3 ∙ ap (counting 0) e)
+    let e₁ : l .out .m ≡ l .i = omega arith in
+    (l .inv .1, l .inv .2, ap (λ (j : ℕ). take j (l .out .idx)) e₁ ∙ l .inv .3 ∙ ap (counting 0) e)
 
 pub counting-spec : {M : Type 1} → statement M
 counting-spec =

@@ -10,10 +10,10 @@ use Rattle.outline_triangulate.proofs.lists.fan.Statement.{statement}
 use Rattle.outline_triangulate.proofs.lists.fan.Tie as tie
 
 abbrev Inv-loop : tie.InvT-loop
-Inv-loop at n t out₀ a k₀ out k = (1 ≤ k) × (k < n) × (length out ≡ length out₀) × Fanning t k a (take n at) out₀ out
+Inv-loop idx m t out₀ a k₀ out k = (1 ≤ k) × (k < m) × (length out ≡ length out₀) × Fanning t k a (take m idx) out₀ out
 
 abbrev μ-loop : tie.MeasureT-loop
-μ-loop at n t out₀ a k₀ out k = n - k
+μ-loop idx m t out₀ a k₀ out k = m - k
 
 element-copy-out-a : tie.Need-element-copy-out-a Inv-loop μ-loop
 element-copy-out-a c = omega arith
@@ -21,10 +21,10 @@ element-copy-out-a c = omega arith
 loop-holds : tie.Need-loop-holds Inv-loop μ-loop
 loop-holds c =
     let a = c .before .before .args in
-    let at = now (a .at) in
-    let m : length (take (a .n) at) ≡ a .n = length-take-le (a .n) at (omega arith) in
-    let g : getD (take (a .n) at) 0 0 ≡ getD at 0 0 = getD-take (a .n) at 0 0 (omega arith) in
-    (omega arith, omega arith, refl, rw g at (fanning-start (a .t) (take (a .n) at) (now (a .out)) (omega arith)))
+    let idx = now (a .idx) in
+    let l₁ : length (take (a .m) idx) ≡ a .m = length-take-le (a .m) idx (omega arith) in
+    let g : getD (take (a .m) idx) 0 0 ≡ getD idx 0 0 = getD-take (a .m) idx 0 0 (omega arith) in
+    (omega arith, omega arith, refl, rw g at (fanning-start (a .t) (take (a .m) idx) (now (a .out)) (omega arith)))
 
 add-loop : tie.Need-add-loop Inv-loop μ-loop
 add-loop c = omega arith
@@ -62,16 +62,16 @@ loop-less c = omega arith
 loop-again : tie.Need-loop-again Inv-loop μ-loop
 loop-again c =
     let a = c .before .before .before .before .before .before .before .before .before .before .args in
-    let at = now (a .at) in
+    let idx = now (a .idx) in
     let l = c .before .before .before .before .before .before .before .loop in
-    let m : length (take (a .n) at) ≡ a .n = length-take-le (a .n) at (omega arith) in
-    let g : getD (take (a .n) at) (l .k) 0 ≡ getD at (l .k) 0 = getD-take (a .n) at (l .k) 0 (omega arith) in
-    let g₁ : getD (take (a .n) at) (l .k + 1) 0 ≡ getD at (l .k + 1) 0 = getD-take (a .n) at (l .k + 1) 0 (c .before .before .before .before .before .before .loop-test .taken) in
+    let l₁ : length (take (a .m) idx) ≡ a .m = length-take-le (a .m) idx (omega arith) in
+    let g : getD (take (a .m) idx) (l .k) 0 ≡ getD idx (l .k) 0 = getD-take (a .m) idx (l .k) 0 (omega arith) in
+    let g₁ : getD (take (a .m) idx) (l .k + 1) 0 ≡ getD idx (l .k + 1) 0 = getD-take (a .m) idx (l .k + 1) 0 (c .before .before .before .before .before .before .loop-test .taken) in
     let w = rw (← g, ← g₁) at (c .before .before .put .ensures) in (
       omega arith,
       omega arith,
       c .before .before .put .kept .0 ∙ l .inv .2,
-      fanning-next (a .t) (l .k) _ (take (a .n) at) (now (a .out)) (l .out) _ (l .inv .0) (omega arith) (l .inv .3) w,
+      fanning-next (a .t) (l .k) _ (take (a .m) idx) (now (a .out)) (l .out) _ (l .inv .0) (omega arith) (l .inv .3) w,
     )
 
 sub-result : tie.Need-sub-result Inv-loop μ-loop
@@ -86,10 +86,10 @@ same-length c = omega arith
 returns : tie.Need-returns Inv-loop μ-loop
 returns c =
     let a = c .before .before .before .before .args in
-    let at = now (a .at) in
+    let idx = now (a .idx) in
     let l = c .before .loop in
-    let m : length (take (a .n) at) ≡ a .n = length-take-le (a .n) at (omega arith) in
-    (refl, rw m at (fanning-end (a .t) (l .k) _ (take (a .n) at) (now (a .out)) (l .out) (l .inv .0) (omega arith) (l .inv .3)))
+    let l₁ : length (take (a .m) idx) ≡ a .m = length-take-le (a .m) idx (omega arith) in
+    (refl, rw l₁ at (fanning-end (a .t) (l .k) _ (take (a .m) idx) (now (a .out)) (l .out) (l .inv .0) (omega arith) (l .inv .3)))
 
 pub fan-spec : {M : Type 1} → statement M
 fan-spec =

@@ -11,7 +11,7 @@ use Rattle.outline_triangulate.proofs.lists.without.Tie as tie
 
 abbrev Inv-loop : tie.InvT-loop
 Inv-loop k left₀ last i₀ left i =
-    (k ≤ i) × (i ≤ last) × (length (left .at) ≡ 512) × (take i (left .at) ≡ take i (without k (left₀ .at))) × (drop i (left .at) ≡ drop i (left₀ .at))
+    (k ≤ i) × (i ≤ last) × (length (left .idx) ≡ 512) × (take i (left .idx) ≡ take i (without k (left₀ .idx))) × (drop i (left .idx) ≡ drop i (left₀ .idx))
 
 abbrev μ-loop : tie.MeasureT-loop
 μ-loop k left₀ last i₀ left i = last - i
@@ -21,8 +21,8 @@ sub-last c = omega arith
 
 loop-holds : tie.Need-loop-holds Inv-loop μ-loop
 loop-holds c =
-    let long : length (c .args .t1 .at) ≡ 512 = search needs in
-    (omega arith, omega arith, long, sym (take-short (c .args .k) (c .args .t1 .at) (omega arith)), refl)
+    let long : length (c .args .t1 .idx) ≡ 512 = search needs in
+    (omega arith, omega arith, long, sym (take-short (c .args .k) (c .args .t1 .idx) (omega arith)), refl)
 
 add-left : tie.Need-add-left Inv-loop μ-loop
 add-left c = omega arith
@@ -49,29 +49,29 @@ loop-again : tie.Need-loop-again Inv-loop μ-loop
 loop-again c =
     let a = c .before .before .before .args in
     let l = c .before .before .loop in
-    let long : length (a .t1 .at) ≡ 512 = search needs in
-    let more : l .i + 1 < length (a .t1 .at) = omega arith in
-    let n : length (l .left .at) ≡ length (a .t1 .at) = omega arith in (
+    let long : length (a .t1 .idx) ≡ 512 = search needs in
+    let more : l .i + 1 < length (a .t1 .idx) = omega arith in
+    let n : length (l .left .idx) ≡ length (a .t1 .idx) = omega arith in (
       omega arith,
       omega arith,
       simp length-set (l .inv .2),
-      shift-done (a .k) (l .i) (a .t1 .at) (l .left .at) (l .inv .0) more n (l .inv .3) (l .inv .4),
-      shift-rest (a .k) (l .i) (a .t1 .at) (l .left .at) (l .inv .0) more n (l .inv .3) (l .inv .4),
+      shift-done (a .k) (l .i) (a .t1 .idx) (l .left .idx) (l .inv .0) more n (l .inv .3) (l .inv .4),
+      shift-rest (a .k) (l .i) (a .t1 .idx) (l .left .idx) (l .inv .0) more n (l .inv .3) (l .inv .4),
     )
 
 returns : tie.Need-returns Inv-loop μ-loop
 returns c =
     let a = c .before .before .args in
     let l = c .before .loop in
-    let long : length (a .t1 .at) ≡ 512 = search needs in
-    let e : a .t1 .n - 1 ≡ l .i = omega arith in
-    let e₁ : l .i + 1 ≡ a .t1 .n = omega arith in (
+    let long : length (a .t1 .idx) ≡ 512 = search needs in
+    let e : a .t1 .m - 1 ≡ l .i = omega arith in
+    let e₁ : l .i + 1 ≡ a .t1 .m = omega arith in (
       omega arith,
       l .inv .2,
-      ap (λ (j : ℕ). take j (l .left .at)) e
+      ap (λ (j : ℕ). take j (l .left .idx)) e
           ∙ l .inv .3
-          ∙ take-without (a .k) (a .t1 .at) (l .i) (l .inv .0) (omega arith)
-          ∙ ap (λ (j : ℕ). without (a .k) (take j (a .t1 .at))) e₁,
+          ∙ take-without (a .k) (a .t1 .idx) (l .i) (l .inv .0) (omega arith)
+          ∙ ap (λ (j : ℕ). without (a .k) (take j (a .t1 .idx))) e₁,
     )
 
 pub without-spec : {M : Type 1} → statement M

@@ -6,7 +6,7 @@ use native.Mathlib.Omega.{arith}
 use lib.ListN.{getD}
 use Rattle.outline.specs.Corners.{point}
 use Rattle.outline_ears.specs.Ears.{cross}
-use Rattle.outline_triangulate.proofs.Steps.{triangle-gives, flat-gives, few-gives}
+use Rattle.outline_triangulate.proofs.Steps.{triangle-cut, flat-cut, few-cut}
 use borrow.Author.Needs.{needs}
 use Rattle.outline_triangulate.proofs.passes.finish.Statement.{statement}
 use Rattle.outline_triangulate.proofs.passes.finish.Tie as tie
@@ -20,14 +20,14 @@ element-copy-out-j c = search needs
 element-copy-out-k : tie.Need-element-copy-out-k
 element-copy-out-k c = search needs
 
-place-requires : tie.Need-place-requires
-place-requires c κs = c .before .before .before .before .before .before .pre .1 .there 0 (omega (arith, c .before .before .before .if1 .taken))
+point-of-requires : tie.Need-point-of-requires
+point-of-requires c κs = c .before .before .before .before .before .before .pre .1 .there 0 (omega (arith, c .before .before .before .if1 .taken))
 
-place-requires-2 : tie.Need-place-requires-2
-place-requires-2 c κs = c .before .before .before .before .before .before .before .pre .1 .there 1 (omega (arith, c .before .before .before .before .if1 .taken))
+point-of-requires-2 : tie.Need-point-of-requires-2
+point-of-requires-2 c κs = c .before .before .before .before .before .before .before .pre .1 .there 1 (omega (arith, c .before .before .before .before .if1 .taken))
 
-place-requires-3 : tie.Need-place-requires-3
-place-requires-3 c κs = c .before .before .before .before .before .before .before .before .pre .1 .there 2 (omega (arith, c .before .before .before .before .before .if1 .taken))
+point-of-requires-3 : tie.Need-point-of-requires-3
+point-of-requires-3 c κs = c .before .before .before .before .before .before .before .before .pre .1 .there 2 (omega (arith, c .before .before .before .before .before .if1 .taken))
 
 cross-requires : tie.Need-cross-requires
 cross-requires c κs = search needs
@@ -47,12 +47,12 @@ returns c =
     let three = r .before .before .before .before .before .before .before in
     let d = three .before .before .before in
     let a = d .args in
-    let v = now (a .corners) in
-    let at = now (a .at) in
-    let x : r .cross .result ≡ cross (point v (getD at 0 0)) (point v (getD at 1 0)) (point v (getD at 2 0)) =
-    r .cross .ensures ∙ (λ i. cross (r .before .before .before .place .ensures i) (r .before .before .place2 .ensures i) (r .before .place3 .ensures i)) in (
+    let v = now (a .v) in
+    let idx = now (a .idx) in
+    let x : r .cross .result ≡ cross (point v (getD idx 0 0)) (point v (getD idx 1 0)) (point v (getD idx 2 0)) =
+    r .cross .ensures ∙ (λ i. cross (r .before .before .before .point-of .ensures i) (r .before .before .point-of2 .ensures i) (r .before .point-of3 .ensures i)) in (
       le-add-right (a .cut .triangles) 1,
-      triangle-gives v (a .e) at (a .n) (a .cut) (now (a .out)) (d .pre .1) (d .pre .2) (three .if1 .taken)
+      triangle-cut v (a .eps) idx (a .m) (a .cut) (now (a .out)) (d .pre .1) (d .pre .2) (three .if1 .taken)
           _ x _ (c .before .before .put .kept .0) (c .before .before .before .before .if2 .taken) (c .before .before .put .ensures),
     )
 
@@ -62,17 +62,17 @@ returns-2 c =
     let three = r .before .before .before .before .before .before .before in
     let d = three .before .before .before in
     let a = d .args in
-    let v = now (a .corners) in
-    let at = now (a .at) in
-    let x : r .cross .result ≡ cross (point v (getD at 0 0)) (point v (getD at 1 0)) (point v (getD at 2 0)) =
-    r .cross .ensures ∙ (λ i. cross (r .before .before .before .place .ensures i) (r .before .before .place2 .ensures i) (r .before .place3 .ensures i)) in
-    (le-refl (a .cut .triangles), flat-gives v (a .e) at (a .n) (a .cut) (now (a .out)) (d .pre .1) (d .pre .2) (three .if1 .taken) _ x (c .if2 .left))
+    let v = now (a .v) in
+    let idx = now (a .idx) in
+    let x : r .cross .result ≡ cross (point v (getD idx 0 0)) (point v (getD idx 1 0)) (point v (getD idx 2 0)) =
+    r .cross .ensures ∙ (λ i. cross (r .before .before .before .point-of .ensures i) (r .before .before .point-of2 .ensures i) (r .before .point-of3 .ensures i)) in
+    (le-refl (a .cut .triangles), flat-cut v (a .eps) idx (a .m) (a .cut) (now (a .out)) (d .pre .1) (d .pre .2) (three .if1 .taken) _ x (c .if2 .left))
 
 returns-3 : tie.Need-returns-3
 returns-3 c =
     let d = c .before .before .before in
     let a = d .args in
-    (le-refl (a .cut .triangles), few-gives (now (a .corners)) (a .e) (now (a .at)) (a .n) (a .cut) (now (a .out)) (d .pre .1) (d .pre .2) (c .if1 .left))
+    (le-refl (a .cut .triangles), few-cut (now (a .v)) (a .eps) (now (a .idx)) (a .m) (a .cut) (now (a .out)) (d .pre .1) (d .pre .2) (c .if1 .left))
 
 pub finish-spec : {M : Type 1} → statement M
 finish-spec =
@@ -81,9 +81,9 @@ finish-spec =
     element-copy-out-i
     element-copy-out-j
     element-copy-out-k
-    place-requires
-    place-requires-2
-    place-requires-3
+    point-of-requires
+    point-of-requires-2
+    point-of-requires-3
     cross-requires
     put-requires
     add-t27

@@ -15,7 +15,7 @@ ear-at-requires : tie.Need-ear-at-requires
 ear-at-requires c κs =
     let d = c .before .before .before .before .before .before in
     let a = d .args in
-    (ear-below (now (a .corners)) (a .e) (now (a .at)) (a .n) (d .pre .1) _ (c .before .before .before .first-ear .ensures) (c .before .k .given .1), d .pre .1)
+    (ear-below (now (a .v)) (a .eps) (now (a .idx)) (a .m) (d .pre .1) _ (c .before .before .before .first-ear .ensures) (c .before .k .given .1), d .pre .1)
 
 put-requires : tie.Need-put-requires
 put-requires c κs = search needs
@@ -53,7 +53,7 @@ returns c =
     let s = c .before .before .before .before .before .before .before .before in
     let d = s .before .before .before in
     let a = d .args in
-    clip-passing (now (a .corners)) (a .e) (now (a .at)) (a .n) (a .cut) (now (a .out)) (d .pre .0) (d .pre .1) (d .pre .2) (s .first-ear .ensures)
+    clip-passing (now (a .v)) (a .eps) (now (a .idx)) (a .m) (a .cut) (now (a .out)) (d .pre .0) (d .pre .1) (d .pre .2) (s .first-ear .ensures)
     _ _ _ (c .before .before .before .before .before .before .k .given .1) (c .before .before .before .before .ear-at .ensures) (p .kept .0) (p .ensures)
 
 returns-2 : tie.Need-returns-2
@@ -61,7 +61,7 @@ returns-2 c =
     let s = c .before .before .before .before .before .before in
     let d = s .before .before .before in
     let a = d .args in
-    drop-passing (now (a .corners)) (a .e) (now (a .at)) (a .n) (a .cut) (now (a .out)) (d .pre .0) (d .pre .1) (d .pre .2) (s .first-ear .ensures)
+    drop-passing (now (a .v)) (a .eps) (now (a .idx)) (a .m) (a .cut) (now (a .out)) (d .pre .0) (d .pre .1) (d .pre .2) (s .first-ear .ensures)
     _ (c .before .before .before .before .enum-told .given .1) (c .before .before .before .first-flat .ensures) (c .before .k2 .given .1)
 
 same-length-2 : tie.Need-same-length-2
@@ -74,7 +74,7 @@ returns-3 c =
     let s = flat .before .before .before in
     let d = s .before .before .before in
     let a = d .args in
-    fan-passing (now (a .corners)) (a .e) (now (a .at)) (a .n) (a .cut) (now (a .out)) (d .pre .0) (d .pre .1) (d .pre .2) (s .first-ear .ensures)
+    fan-passing (now (a .v)) (a .eps) (now (a .idx)) (a .m) (a .cut) (now (a .out)) (d .pre .0) (d .pre .1) (d .pre .2) (s .first-ear .ensures)
     _ _ (flat .before .enum-told .given .1) (flat .first-flat .ensures) (c .before .before .before .before .enum-told2 .given .1) (p .kept .1 .1 .1 .0) (p .ensures)
 
 pub pass-spec : {M : Type 1} → statement M

@@ -4,23 +4,23 @@ use mathlib.Core.Path.{_≡_, refl, sym, ap, _∙_}
 use native.Mathlib.Omega.{arith}
 use Prim.Native.Nat.{_*_, _/_}
 use lib.ListN.{length}
-use Rattle.outline_ears.proofs.Laws.{left-length}
+use Rattle.outline_ears.proofs.Laws.{idx-length}
 use Rattle.outline_triangulate.specs.Triangulate.{passes, start, counting}
-use Rattle.outline_triangulate.specs.Slices.{stateOf, held}
+use Rattle.outline_triangulate.specs.Slices.{clippingOf, idxOf}
 use Rattle.outline_triangulate.proofs.Writing.{counting-inside}
-use Rattle.outline_triangulate.proofs.Steps.{Going, goes-on, goes-without, goes-fanned, square-enough, reaches-end, triangulate-few, triangulate-is, start-is, gives-from, gives-short, passing-at}
+use Rattle.outline_triangulate.proofs.Steps.{Going, goes-on, goes-without, goes-fanned, square-enough, reaches-end, triangulate-few, triangulate-is, start-is, cut-from, cut-short, passing-at}
 use borrow.Author.Needs.{needs}
 use Rattle.outline_triangulate.proofs.passes.triangulate.Statement.{statement}
 use Rattle.outline_triangulate.proofs.passes.triangulate.Tie as tie
 
 abbrev Inv-loop : tie.InvT-loop
-Inv-loop corners out₀ n cut₀ e left₀ out cut left = Going corners e (passes (n * n) corners e (start n)) out₀ left cut out
+Inv-loop v out₀ n cut₀ eps left₀ out cut left = Going v eps (passes (n * n) v eps (start n)) out₀ left cut out
 
 abbrev μ-loop : tie.MeasureT-loop
-μ-loop corners out₀ n cut₀ e left₀ out cut left = left .n
+μ-loop v out₀ n cut₀ eps left₀ out cut left = left .m
 
 returns : tie.Need-returns Inv-loop μ-loop
-returns c = let d = c .before .before .before in (triangulate-few (now (d .args .corners)) (now (d .args .out)) (c .if1 .taken), omega arith, d .pre .1)
+returns c = let d = c .before .before .before in (triangulate-few (now (d .args .v)) (now (d .args .out)) (c .if1 .taken), omega arith, d .pre .1)
 
 tolerance-requires : tie.Need-tolerance-requires Inv-loop μ-loop
 tolerance-requires c κs = tt
@@ -32,7 +32,7 @@ loop-holds : tie.Need-loop-holds Inv-loop μ-loop
 loop-holds c =
     let d = c .before .before .before .before .before in
     let a = d .args in
-    let v = now (a .corners) in
+    let v = now (a .v) in
     let p = c .counting .ensures in
     record {
       inside = counting-inside v (c .counting .result) (p .1) (omega arith) (omega arith) (p .2 ∙ ap (counting 0) (sym (p .0)));
@@ -56,7 +56,7 @@ enum-known-k c = search needs
 without-requires : tie.Need-without-requires Inv-loop μ-loop
 without-requires c κs =
     let s = c .before .before .before .before .before in
-    (passing-at (c .before .k .given .1) (s .pass .ensures) .place, s .before .before .before .before .before .loop .inv .inside .small)
+    (passing-at (c .before .k .given .1) (s .pass .ensures) .index, s .before .before .before .before .before .loop .inv .inside .small)
 
 loop-less : tie.Need-loop-less Inv-loop μ-loop
 loop-less c = omega (arith, c .without .ensures)
@@ -96,17 +96,17 @@ returns-2 c =
     let e = c .before .before .before .before .before .before .before .before .before in
     let d = e .before .before .before .before in
     let a = d .args in
-    let v = now (a .corners) in
+    let v = now (a .v) in
     let n = length v / 2 in
-    let m : length (held (l .left)) ≡ l .left .n = left-length v (l .left .at) (l .left .n) (i .inside) in
-    let s : stateOf (held (l .left)) (l .cut) (l .out) ≡ passes (n * n) v (e .tolerance .result) (start n) =
-    reaches-end v _ (stateOf (held (l .left)) (l .cut) (l .out)) _ _ (omega (arith, c .before .before .before .before .before .before .loop-test .left)) (i .reaches) in
+    let m : length (idxOf (l .left)) ≡ l .left .m = idx-length v (l .left .idx) (l .left .m) (i .inside) in
+    let s : clippingOf (idxOf (l .left)) (l .cut) (l .out) ≡ passes (n * n) v (e .tolerance .result) (start n) =
+    reaches-end v _ (clippingOf (idxOf (l .left)) (l .cut) (l .out)) _ _ (omega (arith, c .before .before .before .before .before .before .loop-test .left)) (i .reaches) in
     let f = c .before .before .finish in
     let long : length (f .last .1 .1 .1 .1 .1 .0) ≡ 1536 = f .kept .1 .1 .1 .1 .1 .0 ∙ i .long ∙ d .pre .1 in
     let g =
-    gives-from _ _ _ (l .cut .triangles) (now (a .out)) (l .out) _
+    cut-from _ _ _ (l .cut .triangles) (now (a .out)) (l .out) _
     (triangulate-is v _ _ (e .before .if1 .left) (e .tolerance .ensures) s) (f .ensures .0) (i .rest) (f .ensures .1) in
-    (g, omega (arith, gives-short g), long)
+    (g, omega (arith, cut-short g), long)
 
 pub triangulate-spec : {M : Type 1} → statement M
 triangulate-spec =
