@@ -1,10 +1,12 @@
 // What a user draws: the shape, its coordinate system and the resolution. The specs say which drawings are refused; `shape_check` checks them.
 mod lists;
+mod rotated;
 mod systems;
 
 pub use lists::item_floats;
 pub use lists::most_items;
 use math::Vec3;
+pub use rotated::is_rot_poly;
 pub use systems::is_cylindrical;
 pub use systems::shape_cs;
 

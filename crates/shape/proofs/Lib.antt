@@ -1,0 +1,2 @@
+-- What the proofs of `shape` share.
+pub mod Tags
