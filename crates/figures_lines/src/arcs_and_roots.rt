@@ -8,7 +8,7 @@ fn arc(name: &[u8], span: f64) {
     figures_text::bytes(b"32 segments, span ");
     figures_text::bytes(name);
     figures_text::bytes(b": ");
-    figures_text::count(surface_axis::arc_segments(32, span));
+    figures_text::count(shape::arc_segments(32, span));
     figures_text::bytes(b"\n");
 }
 

@@ -16,6 +16,8 @@ use Rattle.transform.specs.Checks.{opsFinite, opsAnglesWithin}
 use Rattle.slice.specs.Every.{every}
 use Rattle.shape.specs.declared.Shape.{Shape}
 use Rattle.shape.specs.declared.Shape.the-variants.{Box, MultiBox, Sphere, SphericalShell, Cylinder, CylindricalShell, Polygon, LinPoly, RotPoly, Wire}
+use Rattle.shape.specs.declared.Items.{Items}
+use Rattle.shape.specs.declared.Items.the-variants.{NoItems, Corners, Points, Boxes}
 use Rattle.shape.specs.declared.CoordSystem.{CoordSystem}
 use Rattle.shape.specs.declared.CoordSystem.the-variants.{Cartesian, Cylindrical}
 use Rattle.shape.specs.declared.OwnSystem.{OwnSystem}
@@ -55,32 +57,38 @@ tooManySegments o = ltb 1024 (o .segments) || ltb 1024 (o .«sphere_rings»)
 
 -- ---- refusal 4
 
--- the floats of one item of the shape's list: a corner, a wire point, a box; 0 where the shape has no list
-unfoldable pub itemFloats : Shape → ℕ
-itemFloats (Box a b) = 0
-itemFloats MultiBox = 6
-itemFloats (Sphere c r) = 0
-itemFloats (SphericalShell c r w) = 0
-itemFloats (Cylinder a b r) = 0
-itemFloats (CylindricalShell a b r w) = 0
-itemFloats (Polygon n e) = 2
-itemFloats (LinPoly n e l) = 2
-itemFloats (RotPoly n e a s t) = 2
-itemFloats (Wire r) = 3
+-- the list that is lent beside a shape: the corners of an outline, the points of a wire, the boxes of a multi-box, or none
+unfoldable pub itemsOf : Shape → Items
+itemsOf (Box a b) = NoItems
+itemsOf MultiBox = Boxes
+itemsOf (Sphere c r) = NoItems
+itemsOf (SphericalShell c r w) = NoItems
+itemsOf (Cylinder a b r) = NoItems
+itemsOf (CylindricalShell a b r w) = NoItems
+itemsOf (Polygon n e) = Corners
+itemsOf (LinPoly n e l) = Corners
+itemsOf (RotPoly n e a s t) = Corners
+itemsOf (Wire r) = Points
 
--- the most items of a list: 512 corners of 2 floats, 256 wire points of 3, 256 boxes of 6
-unfoldable pub mostItems : ℕ → ℕ
-mostItems k = cond (eqb k 2) 512 256
+-- n floats are not whole items of k floats, or are more than `most` items
+unfoldable pub badItems : ℕ → ℕ → ℕ → Bool
+badItems k most n = not (eqb (n % k) 0) || ltb most (n / k)
 
--- n floats are not whole items of k floats, or are too many items; a shape without a list does not read one
-unfoldable pub badList : ℕ → ℕ → Bool
-badList k n = not (eqb k 0) && (not (eqb (n % k) 0) || ltb (mostItems k) (n / k))
+-- the list has n floats: a corner is 2 floats, and 512 are allowed; a wire point 3, and 256; a box 6, and 256. A shape without a list does not read one
+unfoldable pub badList : Items → ℕ → Bool
+badList NoItems n = false
+badList Corners n = badItems 2 512 n
+badList Points n = badItems 3 256 n
+badList Boxes n = badItems 6 256 n
 
 -- ---- refusal 1
 
--- the list that the shape reads
-unfoldable pub listOf : ℕ → List Float → List Float
-listOf k list = cond (eqb k 0) [] list
+-- the floats that the shape reads
+unfoldable pub listOf : Items → List Float → List Float
+listOf NoItems list = []
+listOf Corners list = list
+listOf Points list = list
+listOf Boxes list = list
 
 -- every number of the shape itself is finite, those that tessellation does not use too
 unfoldable pub shapeFinite : Shape → Bool
@@ -125,26 +133,29 @@ pointsWithin (x ∷ []) = true
 pointsWithin (x ∷ y ∷ []) = true
 pointsWithin (x ∷ y ∷ z ∷ r) = angleWithin y && pointsWithin r
 
--- the angles of the list: those of wire points and of boxes, where they are taken as cylindrical; outlines are not converted
-unfoldable pub listWithin : Bool → ℕ → List Float → Bool
-listWithin cyl k list = not (cyl && eqb (k % 3) 0) || pointsWithin list
+-- the angles of a shape's list: those of wire points and of both points of each box, where they are taken as cylindrical; corners have none
+unfoldable pub listWithin : Bool → Items → List Float → Bool
+listWithin cyl NoItems list = true
+listWithin cyl Corners list = true
+listWithin cyl Points list = not cyl || pointsWithin list
+listWithin cyl Boxes list = not cyl || pointsWithin list
 
 -- ---- the refusals in their order
 
 -- refusal 1 is due
 unfoldable pub numbersBad : Shape → List Float → List TransformOp → Bool
-numbersBad shape list ops = not (shapeFinite shape && every finite (listOf (itemFloats shape) list) && opsFinite ops)
+numbersBad shape list ops = not (shapeFinite shape && every finite (listOf (itemsOf shape) list) && opsFinite ops)
 
 -- refusal 2 is due
 unfoldable pub anglesBad : Bool → Shape → List Float → Bool → List TransformOp → Bool
 anglesBad cyl shape list degrees ops =
-    not (shapeWithin cyl shape && listWithin cyl (itemFloats shape) (listOf (itemFloats shape) list) && opsAnglesWithin degrees ops)
+    not (shapeWithin cyl shape && listWithin cyl (itemsOf shape) list && opsAnglesWithin degrees ops)
 
 -- 3, 4, 1, 2, in this order, on the shape, its list, its system, the options, and the first `count` operations
 unfoldable pub drawingRefusal : Shape → List Float → OwnSystem → CoordSystem → TessellationOptions → List TransformOp → ℕ → Bool → Refusal
 drawingRefusal shape list own default options ops count degrees =
     cond (tooManySegments options) TooManySegments
-    (cond (badList (itemFloats shape) (length list) || ltb 16 count) BadList
+    (cond (badList (itemsOf shape) (length list) || ltb 16 count) BadList
     (cond (numbersBad shape list (take count ops)) NotFinite
     (cond (anglesBad (cylindrical (shapeCs shape own default)) shape list degrees (take count ops)) AngleTooLarge
     Accepted)))

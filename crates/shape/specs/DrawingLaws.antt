@@ -15,10 +15,11 @@ use Rattle.transform.specs.Checks.{opsFinite, opsAnglesWithin}
 use Rattle.slice.specs.Every.{every}
 use Rattle.slice.proofs.Next.{every-at, every-all}
 use Rattle.shape.specs.declared.Shape.{Shape}
+use Rattle.shape.specs.declared.Items.the-variants.{Corners, Points, Boxes}
 use Rattle.shape.specs.declared.CoordSystem.{CoordSystem}
 use Rattle.shape.specs.declared.OwnSystem.{OwnSystem}
 use Rattle.shape.specs.declared.TessellationOptions.{TessellationOptions}
-use Rattle.shape.specs.Drawing.{shapeCs, cylindrical, tooManySegments, itemFloats, mostItems, badList, listOf, shapeFinite, shapeWithin, listWithin}
+use Rattle.shape.specs.Drawing.{shapeCs, cylindrical, tooManySegments, itemsOf, badItems, badList, listOf, shapeFinite, shapeWithin, listWithin}
 use Rattle.shape.specs.Drawing.{numbersBad, anglesBad, drawingRefusal}
 
 -- a drawing that passes; the angles of points count where `shapeCs` is cylindrical
@@ -26,13 +27,13 @@ pub record AcceptedDrawing (shape : Shape) (list : List Float) (own : OwnSystem)
     (count : ℕ) (degrees : Bool) : Type 0 where
   pub segments-most : options .segments ≤ 1024
   pub rings-most : options .«sphere_rings» ≤ 1024
-  pub list-whole : badList (itemFloats shape) (length list) ≡ false
+  pub list-whole : badList (itemsOf shape) (length list) ≡ false
   pub count-most : count ≤ 16
   pub shape-finite : shapeFinite shape ≡ true
-  pub list-finite : every finite (listOf (itemFloats shape) list) ≡ true
+  pub list-finite : every finite (listOf (itemsOf shape) list) ≡ true
   pub ops-finite : opsFinite (take count ops) ≡ true
   pub shape-within : shapeWithin (cylindrical (shapeCs shape own default)) shape ≡ true
-  pub list-within : listWithin (cylindrical (shapeCs shape own default)) (itemFloats shape) (listOf (itemFloats shape) list) ≡ true
+  pub list-within : listWithin (cylindrical (shapeCs shape own default)) (itemsOf shape) list ≡ true
   pub ops-within : opsAnglesWithin degrees (take count ops) ≡ true
 
 -- ---- tests that did not refuse
@@ -73,12 +74,12 @@ pub accepted : (shape : Shape) (list : List Float) (own : OwnSystem) (default : 
 unfolding drawingRefusal tooManySegments numbersBad anglesBad
 accepted shape list own default options ops count degrees e =
     let cyl = cylindrical (shapeCs shape own default) in
-    let k = itemFloats shape in
+    let k = itemsOf shape in
     let p = passed _ _ _ _ e in
     let numbers = not-false _ (p .one) in
     let angles = not-false _ (p .two) in
     let numbers-front = and-left (shapeFinite shape && every finite (listOf k list)) (opsFinite (take count ops)) numbers in
-    let angles-front = and-left (shapeWithin cyl shape && listWithin cyl k (listOf k list)) (opsAnglesWithin degrees (take count ops)) angles in
+    let angles-front = and-left (shapeWithin cyl shape && listWithin cyl k list) (opsAnglesWithin degrees (take count ops)) angles in
     record {
       segments-most = ltb-false 1024 (options .segments) (or-left _ (ltb 1024 (options .«sphere_rings»)) (p .three));
       rings-most = ltb-false 1024 (options .«sphere_rings») (or-right (ltb 1024 (options .segments)) _ (p .three));
@@ -87,27 +88,33 @@ accepted shape list own default options ops count degrees e =
       shape-finite = and-left (shapeFinite shape) (every finite (listOf k list)) numbers-front;
       list-finite = and-right (shapeFinite shape) (every finite (listOf k list)) numbers-front;
       ops-finite = and-right (shapeFinite shape && every finite (listOf k list)) (opsFinite (take count ops)) numbers;
-      shape-within = and-left (shapeWithin cyl shape) (listWithin cyl k (listOf k list)) angles-front;
-      list-within = and-right (shapeWithin cyl shape) (listWithin cyl k (listOf k list)) angles-front;
-      ops-within = and-right (shapeWithin cyl shape && listWithin cyl k (listOf k list)) (opsAnglesWithin degrees (take count ops)) angles;
+      shape-within = and-left (shapeWithin cyl shape) (listWithin cyl k list) angles-front;
+      list-within = and-right (shapeWithin cyl shape) (listWithin cyl k list) angles-front;
+      ops-within = and-right (shapeWithin cyl shape && listWithin cyl k list) (opsAnglesWithin degrees (take count ops)) angles;
     }
 
 -- ---- whole lists
 
--- a list that is not refused has whole corners, at most 512 of them
-pub corners-whole : (n : ℕ) → badList 2 n ≡ false → (n % 2 ≡ 0) × (n / 2 ≤ 512)
-unfolding badList mostItems
-corners-whole n e = (eqb-true (n % 2) 0 (not-false _ (or-left _ (ltb 512 (n / 2)) e)), ltb-false 512 (n / 2) (or-right (not (eqb (n % 2) 0)) _ e))
+-- floats that are not refused are whole items, and not too many
+items-whole : (k most n : ℕ) → badItems k most n ≡ false → (n % k ≡ 0) × (n / k ≤ most)
+unfolding badItems
+items-whole k most n e =
+    (eqb-true (n % k) 0 (not-false _ (or-left _ (ltb most (n / k)) e)), ltb-false most (n / k) (or-right (not (eqb (n % k) 0)) _ e))
 
--- and whole wire points, at most 256 of them
-pub points-whole : (n : ℕ) → badList 3 n ≡ false → (n % 3 ≡ 0) × (n / 3 ≤ 256)
-unfolding badList mostItems
-points-whole n e = (eqb-true (n % 3) 0 (not-false _ (or-left _ (ltb 256 (n / 3)) e)), ltb-false 256 (n / 3) (or-right (not (eqb (n % 3) 0)) _ e))
+-- whole corners, at most 512 of them
+pub corners-whole : (n : ℕ) → badList Corners n ≡ false → (n % 2 ≡ 0) × (n / 2 ≤ 512)
+unfolding badList
+corners-whole n e = items-whole 2 512 n e
 
--- and whole boxes, at most 256 of them
-pub boxes-whole : (n : ℕ) → badList 6 n ≡ false → (n % 6 ≡ 0) × (n / 6 ≤ 256)
-unfolding badList mostItems
-boxes-whole n e = (eqb-true (n % 6) 0 (not-false _ (or-left _ (ltb 256 (n / 6)) e)), ltb-false 256 (n / 6) (or-right (not (eqb (n % 6) 0)) _ e))
+-- whole wire points, at most 256 of them
+pub points-whole : (n : ℕ) → badList Points n ≡ false → (n % 3 ≡ 0) × (n / 3 ≤ 256)
+unfolding badList
+points-whole n e = items-whole 3 256 n e
+
+-- whole boxes, at most 256 of them
+pub boxes-whole : (n : ℕ) → badList Boxes n ≡ false → (n % 6 ≡ 0) × (n / 6 ≤ 256)
+unfolding badList
+boxes-whole n e = items-whole 6 256 n e
 
 -- ---- finite lists
 

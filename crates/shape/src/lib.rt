@@ -1,10 +1,15 @@
 // What a user draws: the shape, its coordinate system and the resolution. The specs say which drawings are refused; `shape_check` checks them.
+mod arc;
 mod lists;
+mod rotated;
 mod systems;
 
-pub use lists::item_floats;
-pub use lists::most_items;
+pub use arc::arc_segments;
+pub use arc::is_full;
+pub use arc::larger;
+pub use lists::items_of;
 use math::Vec3;
+pub use rotated::is_rot_poly;
 pub use systems::is_cylindrical;
 pub use systems::shape_cs;
 
@@ -72,4 +77,12 @@ pub enum Shape {
     Wire {
         radius: f64,
     },
+}
+
+// The list that is lent beside a shape: none, the corners of an outline (2 floats each), the points of a wire (3), or boxes (6).
+pub enum Items {
+    NoItems,
+    Corners,
+    Points,
+    Boxes,
 }

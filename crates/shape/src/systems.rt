@@ -21,15 +21,7 @@ pub fn shape_cs(shape: Shape, own: OwnSystem, default: CoordSystem) -> CoordSyst
 {
     match shape {
         Shape::MultiBox => default,
-        Shape::Box { .. } => effective_cs(own, default),
-        Shape::Sphere { .. } => effective_cs(own, default),
-        Shape::SphericalShell { .. } => effective_cs(own, default),
-        Shape::Cylinder { .. } => effective_cs(own, default),
-        Shape::CylindricalShell { .. } => effective_cs(own, default),
-        Shape::Polygon { .. } => effective_cs(own, default),
-        Shape::LinPoly { .. } => effective_cs(own, default),
-        Shape::RotPoly { .. } => effective_cs(own, default),
-        Shape::Wire { .. } => effective_cs(own, default),
+        _ => effective_cs(own, default),
     }
 }
 

@@ -1,2 +1,3 @@
 -- What the proofs of `shape_angles` share.
+pub mod Cases
 pub mod Loops

@@ -1,15 +1,14 @@
--- Laws of `pointsWithin` and `listWithin`, in the form that the code's loop goes by: what is left of the list decides. Assumes nothing.
-use Prim.Native.Nat.{ℕ, suc, _+_, _-_, _%_, _<_, _≤_}
+-- Laws of `pointsWithin`, in the form that the code's loop goes by: what is left of the list decides. Assumes nothing.
+use Prim.Native.Nat.{ℕ, suc, _+_, _-_, _<_, _≤_}
 use mathlib.Core.Path.{_≡_, refl, sym, ap, _∙_}
-use mathlib.Core.Bool.{Bool, true, false, not, _&&_, _||_}
+use mathlib.Core.Bool.{Bool, true, false, not, _&&_}
 use mathlib.Core.List.{List, [], _∷_}
 use native.Mathlib.Omega.{arith}
 use lib.ListN.{length, getD, drop, length-drop}
 use lib.Seq.{drop-cons}
-use lib.Dec.{eqb}
 use lib.Ieee.{Float, nan}
-use borrow.Author.Tests.{not-true, not-false, eq-eqb, ne-eqb}
-use Rattle.shape.specs.Drawing.{listOf, angleWithin, pointsWithin, listWithin}
+use borrow.Author.Tests.{not-true, not-false}
+use Rattle.shape.specs.Drawing.{angleWithin, pointsWithin}
 
 -- a list shorter than 3 floats has no whole point
 no-point : (l : List Float) → length l < 3 → true ≡ pointsWithin l
@@ -47,22 +46,3 @@ module _ (list : List Float) (i : ℕ) where
 
   pub points-end : length list - i < 3 → pointsWithin list ≡ pointsWithin (drop i list) → true ≡ pointsWithin list
   points-end h p = no-point (drop i list) (omega (arith, length-drop i list)) ∙ sym p
-
--- ---- the list that a shape reads
-
-or-true : (t : Bool) → true ≡ (not t || true)
-or-true true = refl
-or-true false = refl
-
-module _ (cyl : Bool) (k : ℕ) (list : List Float) where
-  pub none-within : k ≡ 0 → true ≡ listWithin cyl k (listOf k list)
-  unfolding listWithin listOf pointsWithin
-  none-within z = rw (eq-eqb k 0 z) (or-true (cyl && eqb (k % 3) 0))
-
-  pub read-within : {b : Bool} → (k ≡ 0 → ⊥) → (cyl && eqb (k % 3) 0) ≡ true → b ≡ pointsWithin list → b ≡ listWithin cyl k (listOf k list)
-  unfolding listWithin listOf
-  read-within z t e = rw (ne-eqb k 0 z, t) e
-
-  pub unread-within : (k ≡ 0 → ⊥) → (cyl && eqb (k % 3) 0) ≡ false → true ≡ listWithin cyl k (listOf k list)
-  unfolding listWithin listOf
-  unread-within z t = rw (ne-eqb k 0 z, t)

@@ -3,6 +3,7 @@ ghost use mathlib.Core.Path.{_≡_};
 ghost use lib.ListN.{take};
 ghost use Rattle.shape.specs.Drawing as Drawing;
 use math::Vec3;
+use shape::Items;
 use shape::Shape;
 use transform::Radians;
 use transform::TransformOp;
@@ -20,21 +21,18 @@ fn shape_within(cyl: bool, shape: Shape) -> bool
 {
     match shape {
         Shape::Box { start, stop } => point_within(cyl, start) & point_within(cyl, stop),
-        Shape::MultiBox => true,
         Shape::Sphere { center, .. } => point_within(cyl, center),
         Shape::SphericalShell { center, .. } => point_within(cyl, center),
         Shape::Cylinder { start, stop, .. } => point_within(cyl, start) & point_within(cyl, stop),
         Shape::CylindricalShell { start, stop, .. } => point_within(cyl, start)
             & point_within(cyl, stop),
-        Shape::Polygon { .. } => true,
-        Shape::LinPoly { .. } => true,
         Shape::RotPoly {
             start_angle,
             stop_angle,
             ..
         } => transform_angles::within_1000(Radians(start_angle))
             & transform_angles::within_1000(Radians(stop_angle)),
-        Shape::Wire { .. } => true,
+        _ => true,
     }
 }
 
@@ -53,17 +51,14 @@ fn points_within(list: &[f64]) -> bool
     true
 }
 
-// Whether the angles of a list are within 1,000: those of points and boxes, where they are taken as cylindrical.
-fn list_within(cyl: bool, k: usize, list: &[f64]) -> bool
-    ensures { λ r. ⌜ r ≡ Drawing.listWithin cyl k (Drawing.listOf k (now (list .entry))) ⌝ }
+// Whether the angles of a shape's list are within 1,000: those of points and boxes, where they are taken as cylindrical.
+fn list_within(cyl: bool, items: Items, list: &[f64]) -> bool
+    ensures { λ r. ⌜ r ≡ Drawing.listWithin cyl items (now (list .entry)) ⌝ }
 {
-    if k == 0 {
-        return true;
+    match items {
+        Items::Points | Items::Boxes => if cyl { points_within(list) } else { true },
+        _ => true,
     }
-    if cyl & (k % 3 == 0) {
-        return points_within(list);
-    }
-    true
 }
 
 // Refusal 2 on the shape, its list and the first `op_count` operations.
@@ -78,7 +73,7 @@ pub fn angles_bad(
     ensures { λ r. ⌜ r ≡ Drawing.anglesBad cyl shape (now (list .entry)) degrees (take «op_count» ops) ⌝ }
 {
     let good = shape_within(cyl, shape)
-        & list_within(cyl, shape::item_floats(shape), list)
+        & list_within(cyl, shape::items_of(shape), list)
         & transform_angles::ops_angles_within(ops, op_count, degrees);
     !good
 }

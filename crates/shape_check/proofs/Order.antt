@@ -12,7 +12,7 @@ use Rattle.shape.specs.declared.Shape.{Shape}
 use Rattle.shape.specs.declared.CoordSystem.{CoordSystem}
 use Rattle.shape.specs.declared.OwnSystem.{OwnSystem}
 use Rattle.shape.specs.declared.TessellationOptions.{TessellationOptions}
-use Rattle.shape.specs.Drawing.{shapeCs, cylindrical, tooManySegments, itemFloats, badList, numbersBad, anglesBad, drawingRefusal}
+use Rattle.shape.specs.Drawing.{shapeCs, cylindrical, tooManySegments, itemsOf, badList, numbersBad, anglesBad, drawingRefusal}
 
 -- the fourth test's result
 pub angle-test : {cs : CoordSystem} {cyl b : Bool} (shape : Shape) (list : List Float) (own : OwnSystem) (default : CoordSystem) (degrees : Bool) (ops : List TransformOp)
@@ -25,7 +25,7 @@ module _ (shape : Shape) (list : List Float) (own : OwnSystem) (default : CoordS
     unfolding drawingRefusal
     told-3 ha = rw (sym ea ∙ ha)
 
-    module _ (ha : a ≡ false) {b : Bool} (eb : b ≡ (badList (itemFloats shape) (length list) || ltb 16 count)) where
+    module _ (ha : a ≡ false) {b : Bool} (eb : b ≡ (badList (itemsOf shape) (length list) || ltb 16 count)) where
       pub told-4 : b ≡ true → BadList ≡ drawingRefusal shape list own default options ops count degrees
       unfolding drawingRefusal
       told-4 hb = rw (sym ea ∙ ha, sym eb ∙ hb)

@@ -1,4 +1,6 @@
 // docs/SCOPE.md's checks on what was drawn, before anything is computed: refusals 3, 4, 1 and 2, in this order.
+mod limits;
+
 ghost use mathlib.Core.Path.{_≡_};
 ghost use Rattle.shape.specs.Drawing as Drawing;
 use refusal::Refusal;
@@ -21,8 +23,8 @@ pub fn check_drawing(
 ) -> Refusal
     ensures { λ r. ⌜ r ≡ Drawing.drawingRefusal shape (now (list .entry)) own default options ops «op_count» degrees ⌝ }
 {
-    let many = shape_limits::too_many_segments(options);
-    let bad = shape_limits::bad_lists(shape, list.len(), op_count);
+    let many = limits::too_many_segments(options);
+    let bad = limits::bad_lists(shape, list.len(), op_count);
     if many {
         return Refusal::TooManySegments;
     }

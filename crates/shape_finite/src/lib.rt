@@ -4,6 +4,7 @@ ghost use lib.ListN.{take};
 ghost use lib.Ieee.Scale.{finite};
 ghost use Rattle.slice.specs.Every.{every};
 ghost use Rattle.shape.specs.Drawing as Drawing;
+use shape::Items;
 use shape::Shape;
 use transform::TransformOp;
 
@@ -52,14 +53,14 @@ fn shape_finite(shape: Shape) -> bool
     }
 }
 
-// Whether every float of a list is finite, of which a shape without items reads none.
-fn list_finite(k: usize, list: &[f64]) -> bool
-    ensures { λ r. ⌜ r ≡ every finite (Drawing.listOf k (now (list .entry))) ⌝ }
+// Whether every float that a shape reads of its list is finite.
+fn list_finite(items: Items, list: &[f64]) -> bool
+    ensures { λ r. ⌜ r ≡ every finite (Drawing.listOf items (now (list .entry))) ⌝ }
 {
-    if k == 0 {
-        return true;
+    match items {
+        Items::NoItems => true,
+        _ => slice::all_finite(list, list.len()),
     }
-    slice::all_finite(list, list.len())
 }
 
 // Refusal 1 on the shape, its list and the first `op_count` operations.
@@ -67,7 +68,7 @@ pub fn numbers_bad(shape: Shape, list: &[f64], ops: [TransformOp; 16], op_count:
     ensures { λ r. ⌜ r ≡ Drawing.numbersBad shape (now (list .entry)) (take «op_count» ops) ⌝ }
 {
     let good = shape_finite(shape)
-        & list_finite(shape::item_floats(shape), list)
+        & list_finite(shape::items_of(shape), list)
         & transform_finite::ops_finite(ops, op_count);
     !good
 }

@@ -9,11 +9,11 @@ use Rattle.math.specs.Vec.{new, vMin, vMax}
 use Rattle.weld.specs.Rep.{Held, Runs}
 use Rattle.weld.specs.Runs.{runs-as}
 use Rattle.solid_spec.specs.declared.Chart.the-variants.{Cartesian, Cylindrical}
-use Rattle.solid_spec.specs.Arc.{arcSegments}
+use Rattle.shape.specs.Arc.{arcSegments, isFull}
 use Rattle.solid_spec.specs.Grid.{Soup}
 use Rattle.solid_spec.specs.ParamBox.{three, paramBox}
 use Rattle.solid_spec.specs.Coords.{cylindricalToCartesian}
-use Rattle.solid_spec.specs.Boxes.{asIs, turnedTo, cylindricalBox, isFull, boxShape}
+use Rattle.solid_spec.specs.Boxes.{asIs, turnedTo, cylindricalBox, boxShape}
 use Rattle.solid_spec.specs.Surface.{mapped}
 use Rattle.solid_spec.proofs.SurfaceGrids.{cartesian-chart, cylindrical-chart}
 

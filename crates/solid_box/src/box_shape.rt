@@ -26,7 +26,7 @@ fn weld_cylindrical_box(
         (held r (now (vertices .exit)) (now (triangles .exit)) (now (work .exit))) ⌝ }
 {
     let high = surface_box::turned_to(full, lo, hi);
-    let n = surface_axis::arc_segments(segments, high.y - lo.y);
+    let n = shape::arc_segments(segments, high.y - lo.y);
     let mut table = [0.0; 2050];
     let mut numbers = [0usize; 1025];
     let l = surface_box::line_of(lo, high, n, full, 1);
@@ -65,7 +65,7 @@ pub fn weld_box_shape(
     let lo = math::min(a, b);
     let hi = math::max(a, b);
     if cylindrical {
-        let full = surface_box::is_full(hi.y - lo.y);
+        let full = shape::is_full(hi.y - lo.y);
         return weld_cylindrical_box(vertices, triangles, work, w, full, lo, hi, segments);
     }
     flat::weld_flat_box(vertices, triangles, work, w, lo, hi)

@@ -115,9 +115,9 @@ pub fn weld_sphere(
     if r <= 0.0 {
         return w;
     }
-    let nt = surface_axis::larger(rings, 2);
-    let np = surface_axis::larger(segments, 3);
-    if surface_axis::larger(nt, np) <= 64 {
+    let nt = shape::larger(rings, 2);
+    let np = shape::larger(segments, 3);
+    if shape::larger(nt, np) <= 64 {
         return weld_small_sphere(vertices, triangles, work, w, c, r, nt, np, flip);
     }
     weld_large_sphere(vertices, triangles, work, w, c, r, nt, np, flip)
@@ -190,7 +190,7 @@ fn weld_tube(
         (held w (now (vertices .entry)) (now (triangles .entry)) (now (work .entry)))
         (held k (now (vertices .exit)) (now (triangles .exit)) (now (work .exit))) ⌝ }
 {
-    let np = surface_axis::larger(segments, 3);
+    let np = shape::larger(segments, 3);
     let inner = ieee::max(r0, 0.0);
     let e1 = surface_coords::frame1(d);
     let e2 = surface_coords::frame2(d);

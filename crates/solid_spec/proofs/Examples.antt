@@ -17,8 +17,8 @@ use Rattle.solid_spec.specs.Grid.{Soup, grid}
 use Rattle.solid_spec.specs.ParamBox.{coord, facePoint, face, faces, paramBox}
 use Rattle.solid_spec.specs.Coords.{toCartesian}
 use Rattle.solid_spec.specs.Sphere.{latitude, longitude, onSphere, spherePoint, sphere, sphereSoup}
-use Rattle.solid_spec.specs.Arc.{countedSpan, arcShare, arcSegments}
-use Rattle.solid_spec.specs.Boxes.{fullSpan, turnedTo, cylindricalBox, isFull, boxShape, boxSoup}
+use Rattle.shape.specs.Arc.{countedSpan, arcShare, arcSegments, fullSpan, isFull}
+use Rattle.solid_spec.specs.Boxes.{turnedTo, cylindricalBox, boxShape, boxSoup}
 use Rattle.solid_spec.proofs.Points.{FitsV}
 use Rattle.solid_spec.proofs.SphereBalanced.{sphereSoup-balanced}
 use Rattle.solid_spec.proofs.BoxBalanced.{Bounded, boxSoup-balanced}

@@ -7,7 +7,6 @@ pub mod Coord
 pub mod ParamBoxBalanced
 pub mod Maps
 pub mod SphereBalanced
-pub mod ArcLaws
 pub mod CylinderBalanced
 pub mod BoxBalanced
 pub mod PartsBalanced

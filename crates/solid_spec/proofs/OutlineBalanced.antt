@@ -16,9 +16,8 @@ use Rattle.mesh_balance_spec.specs.Soup.{Tri, Balanced, balanced-map}
 use Rattle.mesh_balance_spec.specs.Grid.{Bounds}
 use Rattle.mesh_balance_spec.specs.Prism.{cycle}
 use Rattle.mesh_spec.specs.Mesh.{plusZeroV}
-use Rattle.solid_spec.specs.Arc.{arcSegments}
+use Rattle.shape.specs.Arc.{arcSegments, isFull}
 use Rattle.solid_spec.specs.Grid.{Soup, grid}
-use Rattle.solid_spec.specs.Boxes.{isFull}
 use Rattle.solid_spec.specs.Outline.{cornerAt, caps, extrudedSides, extrudedFrom, angle, spun, turnedAt, turnedSides, turnedFrom, rotatedFrom}
 use Rattle.solid_spec.specs.Surface.{height}
 use Rattle.solid_spec.proofs.Closes.{Closes, nothing-closes}

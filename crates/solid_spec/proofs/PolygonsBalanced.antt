@@ -18,7 +18,7 @@ use Rattle.outline.proofs.Copies.{length-reversed}
 use Rattle.outline_triangulate.specs.Triangulate.{triangulatePolygon}
 use Rattle.outline_caps_law.specs.Caps as Cap
 use Rattle.mesh_spec.specs.Mesh.{plusZeroV}
-use Rattle.solid_spec.specs.Boxes.{isFull}
+use Rattle.shape.specs.Arc.{isFull}
 use Rattle.solid_spec.specs.Outline.{extrudedFrom, rotatedFrom}
 use Rattle.solid_spec.specs.Polygons.{capTriangles, extrudedPolygon, lowEnd, highEnd, linPolySoup, radialAxis, swaps, rotpoly, rotPolySoup}
 use Rattle.solid_spec.proofs.Closes.{Closes, nothing-closes}

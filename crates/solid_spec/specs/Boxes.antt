@@ -3,18 +3,14 @@ use mathlib.Core.List.{List, [], _∷_, _++_}
 use mathlib.Core.Bool.{Bool, false, cond}
 use Prim.Native.Nat.{ℕ, zero, suc, _+_, _*_, _/_}
 use lib.ListN.{length, getD}
-use lib.Ieee.{Float, nan, binary64, add, sub, ofBits, le}
+use lib.Ieee.{Float, nan, binary64, add, sub}
 use Rattle.ieee.specs.Number.{tau}
 use Rattle.math.specs.declared.Vec3.{Vec3}
 use Rattle.math.specs.Vec.{new, vMin, vMax}
-use Rattle.solid_spec.specs.Arc.{arcSegments}
+use Rattle.shape.specs.Arc.{arcSegments, isFull}
 use Rattle.solid_spec.specs.Grid.{Soup}
 use Rattle.solid_spec.specs.ParamBox.{three, paramBox}
 use Rattle.solid_spec.specs.Coords.{cylindricalToCartesian}
-
--- `TAU - 1e-12`: a span from here on is a full turn
-unfoldable pub fullSpan : Float
-fullSpan = sub binary64 tau (ofBits binary64 0x3D71_9799_812D_EA11)
 
 -- the identity, as a Cartesian box maps its points
 abbrev pub asIs : Vec3 → Vec3
@@ -29,10 +25,6 @@ unfoldable pub cylindricalBox : Bool → Vec3 → Vec3 → ℕ → Soup
 cylindricalBox full lo hi segments =
     let high = turnedTo full lo hi in
     paramBox lo high (three 1 (arcSegments segments (sub binary64 (high .y) (lo .y))) 1) (three false full false) cylindricalToCartesian
-
--- `span >= TAU - 1e-12`
-unfoldable pub isFull : Float → Bool
-isFull span = le fullSpan span
 
 -- `box_shape`
 unfoldable pub boxShape : Vec3 → Vec3 → Bool → ℕ → Soup

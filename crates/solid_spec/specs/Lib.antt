@@ -1,5 +1,4 @@
 -- The definitions of each solid's soup, after src/tessellate.rs.
-pub mod Arc
 pub mod Grid
 pub mod ParamBox
 pub mod Coords

@@ -17,9 +17,8 @@ use Rattle.outline.specs.Corners.{point}
 use Rattle.outline.specs.Axes.{planeAxes}
 use Rattle.mesh_balance_spec.specs.Soup.{Tri, mapTri, flip}
 use Rattle.mesh_balance_spec.specs.Grid.{quad, upto}
-use Rattle.solid_spec.specs.Arc.{arcSegments}
+use Rattle.shape.specs.Arc.{arcSegments, isFull}
 use Rattle.solid_spec.specs.Grid.{Soup}
-use Rattle.solid_spec.specs.Boxes.{isFull}
 
 -- `plane_point`: `Vec3::ZERO` after `p[u] = a`, `p[v] = b`, `p[n] = h`
 unfoldable pub planePoint : ℕ → Point → Float → Vec3

@@ -27,14 +27,13 @@ use Rattle.outline_triangulate.specs.Triangulate.{Clipping, triangulatePolygon}
 use Rattle.outline_triangulate.specs.declared.Cut.{Cut}
 use Rattle.outline_triangulate.specs.Slices.{CutAs}
 use Rattle.surface.specs.Within.{ExtrudedWithin, RotatedWithin}
-use Rattle.solid_spec.proofs.ArcLaws.{arcSegments-some, arcSegments-few}
+use Rattle.shape.specs.ArcLaws.{arcSegments-some, arcSegments-few}
 use Rattle.weld.specs.Rep.{Held, Ready, Runs}
 use Rattle.weld.specs.Runs.{runs-none, runs-then, runs-as}
 use Rattle.solid_spec.specs.declared.Surface.the-variants.{Extruded, Rotated}
-use Rattle.solid_spec.specs.Arc.{arcSegments}
+use Rattle.shape.specs.Arc.{arcSegments, isFull}
 use Rattle.solid_spec.specs.declared.Surface.{Surface}
 use Rattle.solid_spec.specs.Grid.{Soup, grid}
-use Rattle.solid_spec.specs.Boxes.{isFull}
 use Rattle.solid_spec.specs.Outline.{planePoint, caps, cornerAt, extrudedSides, extrudedFrom, angle, spun, turnedAt, turnedSides, turnedFrom, rotatedFrom}
 use Rattle.solid_spec.specs.Polygons.{capTriangles, extrudedPolygon, radialAxis, swaps, rotpoly}
 use Rattle.solid_spec.specs.Surface.{height, surfaceAt}

@@ -152,8 +152,8 @@ fn weld_rotated_from(
         return w;
     }
     let span = stop - start;
-    let full = surface_box::is_full(ieee::abs(span));
-    let n = surface_axis::arc_segments(segments, turn_span(full, span));
+    let full = shape::is_full(ieee::abs(span));
+    let n = shape::arc_segments(segments, turn_span(full, span));
     let s = Surface::Rotated {
         a,
         q,

@@ -10,7 +10,6 @@ pub use faces::line_of;
 pub use flat::face;
 pub use guessing::guesses;
 use math::Vec3;
-pub use turn::is_full;
 pub use turn::turned_to;
 
 // The points of a quad.

@@ -5,13 +5,6 @@ use math::Vec3;
 
 const TAU: f64 = 6.283185307179586;
 
-// Whether a span is a full turn.
-pub fn is_full(span: f64) -> bool
-    ensures { λ r. ⌜ r ≡ Boxes.isFull span ⌝ }
-{
-    span >= TAU - 1e-12
-}
-
 // The high bound of a cylindrical box.
 pub fn turned_to(full: bool, lo: Vec3, hi: Vec3) -> Vec3
     ensures { λ r. ⌜ r ≡ Boxes.turnedTo full lo hi ⌝ }

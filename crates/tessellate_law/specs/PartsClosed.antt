@@ -24,7 +24,8 @@ use Rattle.mesh_spec.specs.Mesh.{fromSoup, everyFinite}
 use Rattle.mesh_spec.specs.Closed.{Closed}
 use Rattle.mesh_spec.specs.Welded.{fromSoup-closed}
 use Rattle.solid_spec.specs.Grid.{Soup}
-use Rattle.solid_spec.specs.Boxes.{isFull, pointAt}
+use Rattle.shape.specs.Arc.{isFull}
+use Rattle.solid_spec.specs.Boxes.{pointAt}
 use Rattle.solid_spec.specs.Polygons.{capTriangles, swaps}
 use Rattle.solid_spec.proofs.Points.{FiniteV, FitsV, finite-says}
 use Rattle.solid_spec.proofs.BoxBalanced.{Bounded, boxSoup-balanced}
@@ -35,7 +36,7 @@ use Rattle.solid_spec.proofs.PartsBalanced.{EachPart, BalancedPart, FitsAll, po
 use Rattle.shape.specs.declared.Shape.{Shape}
 use Rattle.shape.specs.declared.Shape.the-variants.{Box, MultiBox, Sphere, SphericalShell, Cylinder, CylindricalShell, Polygon, LinPoly, RotPoly, Wire}
 use Rattle.shape.specs.declared.TessellationOptions.{TessellationOptions}
-use Rattle.shape.specs.Drawing.{itemFloats, listOf, shapeFinite}
+use Rattle.shape.specs.Drawing.{itemsOf, listOf, shapeFinite}
 use Rattle.shape.specs.DrawingLaws.{finite-at}
 use Rattle.slice.specs.Every.{every}
 use Rattle.tessellate_spec.specs.Solid.{partsOf, partsFinite}
@@ -92,8 +93,8 @@ turned-or start stop A (inl full) e = absurd (true-T false (sym e ∙ full))
 turned-or start stop A (inr a) e = a
 
 module _ (cylindrical : Bool) (v : List Float) (o : TessellationOptions) (few : o .segments ≤ 1024) (f : FitsAll v) where
-  pub parts-balanced : (s : Shape) → FitsShape s → shapeFinite s ≡ true → every finite (listOf (itemFloats s) v) ≡ true → Solid s v → EachPart BalancedPart (partsOf cylindrical s v o)
-  unfolding partsOf shapeFinite itemFloats listOf
+  pub parts-balanced : (s : Shape) → FitsShape s → shapeFinite s ≡ true → every finite (listOf (itemsOf s) v) ≡ true → Solid s v → EachPart BalancedPart (partsOf cylindrical s v o)
+  unfolding partsOf shapeFinite itemsOf listOf
   parts-balanced (Box a b) g n l u =
       let t = true-T (vFinite a && vFinite b) n in
       let h = bounded a b (g .0) (g .1) (finite-says a (and-l (vFinite a) (vFinite b) t)) (finite-says b (and-r (vFinite a) (vFinite b) t)) u in

@@ -22,7 +22,7 @@ use Rattle.mesh_spec.specs.Closed.{Closed}
 use Rattle.solid_spec.specs.Grid.{grid}
 use Rattle.solid_spec.specs.ParamBox.{coord, facePoint, face, faces, paramBox}
 use Rattle.solid_spec.specs.Sphere.{sphere, sphereSoup}
-use Rattle.solid_spec.specs.Arc.{countedSpan, arcShare, arcSegments}
+use Rattle.shape.specs.Arc.{countedSpan, arcShare, arcSegments}
 use Rattle.solid_spec.specs.Boxes.{boxShape}
 use Rattle.shape.specs.declared.Shape.{Shape}
 use Rattle.shape.specs.declared.Shape.the-variants.{Box, Sphere}

@@ -14,7 +14,8 @@ use Rattle.refusal.specs.declared.Refusal.the-variants.{Accepted}
 use Rattle.outline.specs.Clean.{cleanPolygon}
 use Rattle.outline.specs.Ccw.{swapped, ccwPolygon, prepared}
 use Rattle.mesh_spec.specs.Mesh.{Mesh}
-use Rattle.solid_spec.specs.Boxes.{isFull, pointAt}
+use Rattle.shape.specs.Arc.{isFull}
+use Rattle.solid_spec.specs.Boxes.{pointAt}
 use Rattle.solid_spec.specs.Cylinder.{innerRadius, outerRadius}
 use Rattle.solid_spec.specs.Polygons.{capTriangles, lowEnd, highEnd, swaps}
 use Rattle.solid_spec.proofs.Points.{FitsV}

@@ -20,7 +20,8 @@ use Rattle.mesh_check.proofs.Stored.{stored-flip}
 use Rattle.mesh_measures.proofs.Readings.{sum-is}
 use Rattle.mesh_sums.proofs.Terms.{volume-is}
 use Rattle.tessellate_spec.specs.Solid.{outward, solidMesh}
-use Rattle.tessellate_place.specs.Ends.{isRotPoly, turned}
+use Rattle.shape.specs.Rotated.{isRotPoly}
+use Rattle.tessellate_place.specs.Ends.{turned}
 use Rattle.tessellate_place.proofs.Lying.{stored-self}
 
 -- the mesh of a shape from its parts, with one test for the case RotPoly

@@ -1,5 +1,5 @@
 -- What the contracts of `tessellate_place` cite: the mesh as it lies in the slices after each step. Definitions only.
-use mathlib.Core.Bool.{Bool, true, false, cond}
+use mathlib.Core.Bool.{Bool, cond}
 use mathlib.Core.List.{List}
 use Prim.Native.Nat.{ℕ}
 use lib.ListN.{take}
@@ -12,25 +12,10 @@ use Rattle.refusal.specs.declared.Refusal.the-variants.{PointNotFinite}
 use Rattle.mesh_spec.specs.Mesh.{Mesh}
 use Rattle.mesh_spec.specs.Edits.{transform}
 use Rattle.mesh_spec.specs.Closed.{AllThere}
-use Rattle.shape.specs.declared.Shape.{Shape}
-use Rattle.shape.specs.declared.Shape.the-variants.{Box, MultiBox, Sphere, SphericalShell, Cylinder, CylindricalShell, Polygon, LinPoly, RotPoly, Wire}
 use Rattle.slice.specs.Every.{every}
 use Rattle.mesh_check.specs.State.{State, meshOf, Sound}
 use Rattle.tessellate_spec.specs.Solid.{outward}
 use Rattle.tessellate_spec.specs.Outcome.{Outcome, acceptedAs, refusedAs}
-
--- whether the shape is a rotated outline
-unfoldable pub isRotPoly : Shape → Bool
-isRotPoly (Box start stop) = false
-isRotPoly MultiBox = false
-isRotPoly (Sphere center radius) = false
-isRotPoly (SphericalShell center radius width) = false
-isRotPoly (Cylinder start stop radius) = false
-isRotPoly (CylindricalShell start stop radius width) = false
-isRotPoly (Polygon normal elevation) = false
-isRotPoly (LinPoly normal elevation length) = false
-isRotPoly (RotPoly normal elevation axis start stop) = true
-isRotPoly (Wire radius) = false
 
 -- the counted places lie in the slices, and the triangles name only vertices that are there
 pub record Whole (s : State) : Type 0 where

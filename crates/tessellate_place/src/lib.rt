@@ -3,4 +3,3 @@ mod place;
 mod turn;
 
 pub use place::complete;
-pub use turn::is_rot_poly;

@@ -3,27 +3,8 @@ ghost use mathlib.Core.Path.{_≡_};
 ghost use lib.ListN.{length};
 ghost use Rattle.mesh_check.specs.State.{state, meshOf, stored, Sound};
 ghost use Rattle.tessellate_spec.specs.Solid.{outward};
-ghost use Rattle.tessellate_place.specs.Ends.{isRotPoly, turned};
+ghost use Rattle.tessellate_place.specs.Ends.{turned};
 use mesh::TriMesh;
-use shape::Shape;
-
-// Whether the shape is a rotated outline.
-pub fn is_rot_poly(shape: Shape) -> bool
-    ensures { λ r. ⌜ r ≡ isRotPoly shape ⌝ }
-{
-    match shape {
-        Shape::Box { .. } => false,
-        Shape::MultiBox => false,
-        Shape::Sphere { .. } => false,
-        Shape::SphericalShell { .. } => false,
-        Shape::Cylinder { .. } => false,
-        Shape::CylindricalShell { .. } => false,
-        Shape::Polygon { .. } => false,
-        Shape::LinPoly { .. } => false,
-        Shape::RotPoly { .. } => true,
-        Shape::Wire { .. } => false,
-    }
-}
 
 // Turns every triangle where the signed volume is below 0.
 fn turn_outward(counts: TriMesh, vertices: &[f64], triangles: &mut [u32])

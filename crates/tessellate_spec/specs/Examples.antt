@@ -27,7 +27,7 @@ use Rattle.shape.specs.declared.CoordSystem.the-variants.{Cartesian, Cylindrica
 use Rattle.shape.specs.declared.OwnSystem.{OwnSystem}
 use Rattle.shape.specs.declared.OwnSystem.the-variants.{Inherited, Own}
 use Rattle.shape.specs.declared.TessellationOptions.{TessellationOptions}
-use Rattle.shape.specs.Drawing.{effectiveCs, shapeCs, cylindrical, tooManySegments, itemFloats, badList, listOf}
+use Rattle.shape.specs.Drawing.{effectiveCs, shapeCs, cylindrical, tooManySegments, itemsOf, badItems, badList, listOf}
 use Rattle.shape.specs.Drawing.{shapeFinite, pointWithin, pointsWithin, shapeWithin, listWithin, numbersBad, anglesBad, drawingRefusal}
 use Rattle.slice.specs.Every.{wholePlaces, every}
 use Rattle.tessellate_spec.specs.Solid.{partsOf, partsFinite, solidMesh}
@@ -64,7 +64,7 @@ box = boxJob origin corner Cartesian 32 [] 0
 -- tessellateOf, with what it takes to compute it
 unfoldable computed : Job → ℕ → ℕ → ℕ → Outcome
 unfolding tessellateOf refusalOf orElse shortWork jobRefusal badSoup tooFewPlaces badVertex acceptedAs refusedAs wholePlaces every partsFinite everyFinite
-    drawingRefusal tooManySegments badList numbersBad anglesBad itemFloats listOf shapeFinite vFinite pointWithin pointsWithin within1000 shapeWithin listWithin
+    drawingRefusal tooManySegments badItems badList numbersBad anglesBad itemsOf listOf shapeFinite vFinite pointWithin pointsWithin within1000 shapeWithin listWithin
     opsFinite opFinite opsAnglesWithin opAngleWithin finalMesh weldedMesh jobParts partsOf solidMesh fromParts appendParts append fromSoup weldSoup weldTriangle withPoint
     firstSight samePoint plusZeroV shapeCs effectiveCs cylindrical boxShape paramBox faces face grid facePoint withAxis coord axis vMin vMax
     folded foldFrom opMatrix scaling identity product productRow timesRows fromRows transform moved flip transformPoint along overW determinant detRows

@@ -20,7 +20,8 @@ use Rattle.tessellate_spec.specs.Solid.{partsFinite}
 use Rattle.refusal.specs.Accepted.{isAccepted, orElse}
 use Rattle.tessellate_spec.specs.Outcome.{Job, jobParts, weldedMesh, finalMesh, shortWork, jobRefusal, badSoup, tooFewPlaces, badVertex, refusalOf}
 use Rattle.tessellate_spec.specs.Outcome.{Outcome, refusedAs, acceptedAs, tessellateOf}
-use Rattle.tessellate_place.specs.Ends.{isRotPoly, turned, movedAs, placedAs}
+use Rattle.shape.specs.Rotated.{isRotPoly}
+use Rattle.tessellate_place.specs.Ends.{turned, movedAs, placedAs}
 use Rattle.tessellate_weld.specs.Steps.{Drawn}
 use Rattle.tessellate_place.proofs.Turning.{solid-turned, turned-vertices, turned-triangles}
 

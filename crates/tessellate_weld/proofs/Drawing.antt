@@ -16,7 +16,8 @@ use Rattle.shape.specs.DrawingLaws.{accepted}
 use Rattle.mesh_check.specs.State.{state, meshOf, stored}
 use Rattle.tessellate_spec.specs.Solid.{partsOf}
 use Rattle.tessellate_spec.specs.Outcome.{Job, Outcome, jobParts, weldedMesh, jobRefusal, badSoup, tooFewPlaces, refusedAs, tessellateOf}
-use Rattle.tessellate_place.specs.Ends.{isRotPoly, turned, placedAs, Whole}
+use Rattle.shape.specs.Rotated.{isRotPoly}
+use Rattle.tessellate_place.specs.Ends.{turned, placedAs, Whole}
 use Rattle.tessellate_weld.specs.Steps.{countsOf, Drawable, Welded, Drawn}
 use Rattle.mesh_made.proofs.Ending.{refused-lengths}
 use Rattle.tessellate_place.proofs.Lying.{mesh-is, stored-whole, fromParts-there}

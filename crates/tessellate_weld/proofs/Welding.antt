@@ -17,7 +17,8 @@ use Rattle.solid_spec.specs.Grid.{Soup}
 use Rattle.shape.specs.declared.Shape.{Shape}
 use Rattle.shape.specs.declared.Shape.the-variants.{Box, MultiBox, Sphere, SphericalShell, Cylinder, CylindricalShell, Polygon, LinPoly, RotPoly, Wire}
 use Rattle.shape.specs.declared.TessellationOptions.{TessellationOptions}
-use Rattle.shape.specs.Drawing.{badList, itemFloats}
+use Rattle.shape.specs.declared.Items.the-variants.{Corners}
+use Rattle.shape.specs.Drawing.{badList, itemsOf}
 use Rattle.shape.specs.DrawingLaws.{corners-whole}
 use Rattle.solid.specs.Limits.{Bounded, Listed}
 use Rattle.solid_parts.specs.Parts.{PartsRun}
@@ -84,11 +85,11 @@ module _ (parts : List Soup) (k : Held) (ready : Ready k) (rep : k .st .finite �
 pub bounded : (shape : Shape) (list : List Float) (o : TessellationOptions) → Drawable shape list o → Bounded o
 bounded shape list o D = record { segments = D .segments; rings = D .rings }
 
-corners : (n : ℕ) → badList 2 n ≡ false → n ≤ 1024
+corners : (n : ℕ) → badList Corners n ≡ false → n ≤ 1024
 corners n e = omega (arith, corners-whole n e .0, corners-whole n e .1)
 
 pub listed : (shape : Shape) (list : List Float) (o : TessellationOptions) → Drawable shape list o → Listed shape list
-unfolding itemFloats
+unfolding itemsOf
 listed (Polygon normal elevation) list o D = corners (length list) (D .items)
 listed (LinPoly normal elevation height) list o D = corners (length list) (D .items)
 listed (RotPoly normal elevation axis start stop) list o D = corners (length list) (D .items)

@@ -11,7 +11,7 @@ use Rattle.solid_spec.specs.Grid.{Soup}
 use Rattle.weld.specs.declared.Welder.{Welder}
 use Rattle.shape.specs.declared.Shape.{Shape}
 use Rattle.shape.specs.declared.TessellationOptions.{TessellationOptions}
-use Rattle.shape.specs.Drawing.{badList, itemFloats}
+use Rattle.shape.specs.Drawing.{badList, itemsOf}
 use Rattle.mesh_check.specs.declared.TriMesh.{TriMesh}
 use Rattle.slice.specs.Every.{every}
 use Rattle.mesh_check.specs.State.{state, stored}
@@ -26,7 +26,7 @@ countsOf w = record { vertices = w .count; triangles = w .faces }
 pub record Drawable (shape : Shape) (list : List Float) (options : TessellationOptions) : Type 0 where
   pub segments : options .segments ≤ 1024
   pub rings : options .«sphere_rings» ≤ 1024
-  pub items : badList (itemFloats shape) (length list) ≡ false
+  pub items : badList (itemsOf shape) (length list) ≡ false
 
 -- the parts are welded: w tells whether every point is finite and whether the mesh fits the slices vs and ts. Where both hold, the slices hold it.
 pub record Welded (parts : List Soup) (w : Welder) (vs : List Float) (ts : List ℕ) : Type 0 where

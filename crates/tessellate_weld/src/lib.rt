@@ -64,7 +64,7 @@ pub fn draw(
         r (now (vertices .exit)) (now (triangles .exit)) (now (work .exit)) ⌝ }
 {
     let cylindrical = shape::is_cylindrical(shape::shape_cs(shape, own, default));
-    let rotated = tessellate_place::is_rot_poly(shape);
+    let rotated = shape::is_rot_poly(shape);
     let w = weld_all(vertices, triangles, work, shape, list, cylindrical, options);
     let finite = w.finite;
     let room = w.room;

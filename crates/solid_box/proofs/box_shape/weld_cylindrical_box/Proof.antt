@@ -1,5 +1,5 @@
 -- `solid_box::box_shape::weld_cylindrical_box` meets its contract. Assumes nothing.
-use Rattle.solid_spec.proofs.ArcLaws.{arc-few}
+use Rattle.shape.specs.ArcLaws.{arc-few}
 use Rattle.solid_box.proofs.BoxRuns.{cylindrical-runs}
 use Rattle.solid_box.proofs.FaceRuns.{line-tabled}
 use mathlib.Core.Path.{refl, ap}

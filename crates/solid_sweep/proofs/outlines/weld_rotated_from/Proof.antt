@@ -2,10 +2,9 @@
 use borrow.Author.Needs.{needs}
 use native.Mathlib.Omega.{arith}
 use mathlib.Core.Path.{ap, _∙_}
-use Rattle.solid_spec.specs.Arc.{arcSegments}
-use Rattle.solid_spec.specs.Boxes.{isFull}
+use Rattle.shape.specs.Arc.{arcSegments, isFull}
 use Rattle.surface.proofs.Tables.{filled-less}
-use Rattle.solid_spec.proofs.ArcLaws.{arc-few, arc-some}
+use Rattle.shape.specs.ArcLaws.{arc-few, arc-some}
 use Rattle.solid_sweep.proofs.OutlineRuns.{rotated-within, rotated-none, rotated-runs}
 use Rattle.solid_sweep.proofs.outlines.weld_rotated_from.Statement.{statement}
 use Rattle.solid_sweep.proofs.outlines.weld_rotated_from.Tie as tie

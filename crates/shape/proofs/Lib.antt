@@ -1,0 +1,3 @@
+-- What the proofs of `shape` share.
+pub mod Spans
+pub mod Tags
