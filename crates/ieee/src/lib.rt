@@ -10,6 +10,17 @@ ghost use mathlib.Core.Bool.{true, false};
 ghost use Rattle.ieee.specs.Number.{minimum, maximum, absolute, ceiling};
 ghost use Rattle.ieee.specs.Whole.{wholeOf, nearestMagnitude, mod4};
 
+mod bits;
+
+pub use bits::bits_of;
+pub use bits::from_bits;
+
+// core::f64::consts::PI.
+pub const PI: f64 = 3.141592653589793;
+
+// core::f64::consts::TAU.
+pub const TAU: f64 = 6.283185307179586;
+
 // A whole number as a float, and that number modulo 4.
 pub struct Whole {
     pub value: f64,

@@ -19,7 +19,8 @@ use Rattle.mesh_check.specs.State.{State, meshOf, badMesh, notFinite, Sound}
 use Rattle.mesh_move_affine.specs.Affine.{FiniteVertices}
 use Rattle.mesh_append_check.specs.Append.{noRoom, appendRefusal}
 use Rattle.mesh_transform_check.specs.Transform.{transformed, transformRefusal}
-use Rattle.mesh_check.proofs.Sound.{not-bad, sound, finite-vertices, places-three, places-limit, neither}
+use Rattle.slice_law.specs.Bools.{neither}
+use Rattle.mesh_check.proofs.Sound.{not-bad, sound, finite-vertices, places-three, places-limit}
 use Rattle.mesh_check.proofs.Stored.{appended-vertices, appended-triangles}
 
 last : (a b c : Bool) → isAccepted (cond a BadMesh (cond b NotFinite (cond c NoRoom Accepted))) ≡ true → c ≡ false

@@ -1,25 +1,21 @@
 -- What check 8 shows of a state. Assumes nothing.
 use mathlib.Core.Path.{_≡_, refl, sym, ap, _∙_}
-use mathlib.Core.Bool.{Bool, true, false, not, _||_, cond, true≢false, false≢true}
-use mathlib.Core.List.{List}
-use Prim.Native.Nat.{ℕ, _+_, _*_, _/_, _≤_, _<_}
+use mathlib.Core.Bool.{Bool, true, false, not, _||_, cond, false≢true}
+use Prim.Native.Nat.{ℕ, _*_, _≤_, _<_}
 use native.Mathlib.Omega.{arith}
 use lib.ListN.{length, take, getD}
 use lib.Dec.{ltb}
 use lib.Ieee.Scale.{finite}
 use borrow.Author.Tests.{ltb-true, ltb-false, lt-ltb, le-ltb, not-false}
+use Rattle.slice_law.specs.Bools.{neither, or-true}
 use Rattle.refusal.specs.declared.Refusal.{Refusal}
 use Rattle.refusal.specs.declared.Refusal.the-variants.{Accepted, NotFinite, BadMesh}
 use Rattle.slice.specs.Every.{wholePlaces, every}
 use Rattle.refusal.specs.Accepted.{isAccepted}
 use Rattle.mesh_check.specs.State.{State, badMesh, notFinite, checkOf, Sound}
-use Rattle.slice_bounded.specs.Bounded.{within}
+use Rattle.slice_bounded.specs.Bounded.{isBounded}
 use Rattle.mesh_move_affine.specs.Affine.{FiniteVertices, Tested}
-use Rattle.slice.proofs.Next.{every-at}
-
-pub neither : (a b : Bool) → (a || b) ≡ false → (a ≡ false) × (b ≡ false)
-neither true b e = absurd (true≢false e)
-neither false b e = (refl, e)
+use Rattle.slice.specs.EveryLaws.{every-at}
 
 pub places-three : (n len : ℕ) → n ≤ wholePlaces len → 3 * n ≤ len
 unfolding wholePlaces
@@ -59,7 +55,7 @@ module _ (s : State) (good : badMesh s ≡ false) where
   unfolding notFinite
   finite-vertices h = record { within = sound .vertices; finite = not-false (every finite (take (3 * s .mesh .vertices) (s .vertices))) h }
 
-  pub tested : notFinite s ≡ false → (small : Bool) → small ≡ every within (take (3 * s .mesh .vertices) (s .vertices)) → Tested (s .vertices) (s .mesh .vertices) small
+  pub tested : notFinite s ≡ false → (small : Bool) → small ≡ every isBounded (take (3 * s .mesh .vertices) (s .vertices)) → Tested (s .vertices) (s .mesh .vertices) small
   tested h small e = record { vertices = finite-vertices h; bounded = λ t. sym e ∙ t }
 
 -- ---- a call that was accepted
@@ -73,10 +69,6 @@ unfolding checkOf
 check-sound s r e h = sound s (not-bad (badMesh s) (cond (notFinite s) NotFinite Accepted) (sym (ap {B = Bool} isAccepted e) ∙ h))
 
 -- ---- the tests in their order
-or-true : (b : Bool) → (b || true) ≡ true
-or-true true = refl
-or-true false = refl
-
 module _ (s : State) where
   pub bad-vertices : wholePlaces (length (s .vertices)) < s .mesh .vertices → true ≡ badMesh s
   unfolding badMesh

@@ -9,6 +9,7 @@ use native.Mathlib.Omega.{arith}
 use lib.ListN.{length, getD, take, drop, replicate, length-drop, length-append, take-append-drop}
 use lib.Seq.{drop-cons, length-take-le, take-at, drop-at}
 use lib.Ieee.{Float, nan, binary64, lt, ofBits}
+use Rattle.slice_law.specs.Lists.{drop-further}
 use Rattle.slice.specs.Cleared.{clearedFrom}
 use Rattle.outline.specs.Corners.{point, padded}
 use Rattle.outline.specs.Clean.{cleanPolygon}
@@ -16,7 +17,6 @@ use Rattle.outline.specs.Area.{signedArea}
 use Rattle.outline.specs.Ccw.{swapped, reversed, pickCorners, ccwPolygon, prepared}
 use Rattle.outline.specs.Slices.{Wrote, Copied}
 use Rattle.outline.specs.declared.Point.{Point}
-use Rattle.outline.proofs.Laws.{drop-further}
 
 abbrev zeroes : ℕ → List Float
 zeroes n = replicate n (ofBits binary64 0)

@@ -1,27 +1,22 @@
 -- Laws of `cleanPolygon` and `signedArea`, in the form that the code's loops go by. Assumes nothing.
 use Prim.Native.Nat.{ℕ, zero, suc, _+_, _-_, _*_, _/_, _%_, _<_, _≤_}
 use mathlib.Core.Path.{_≡_, refl, sym, ap, _∙_}
-use mathlib.Core.Bool.{Bool, true, false, _&&_}
+use mathlib.Core.Bool.{Bool, true, false}
 use mathlib.Core.List.{List, [], _∷_, _++_, append-assoc}
 use native.Mathlib.Numerals.{add-one}
 use native.Mathlib.Nat.{not-suc-le-zero, le-of-suc-le-suc}
 use native.Mathlib.Omega.{arith}
-use lib.ListN.{length, getD, take, drop, set, length-take, length-drop, length-set, take-append-drop}
-use lib.Seq.{drop-cons, take-suc-set, drop-set-lt, getD-take, length-take-le, take-take, drop-drop}
+use lib.ListN.{length, getD, take, drop, set, length-drop, length-set}
+use lib.Seq.{drop-cons, take-suc-set, drop-set-lt, getD-take, length-take-le, take-take}
 use lib.Ieee.{Float, nan, binary64, add, div, eq, ofBits}
 use borrow.Author.Tests.{lt-ltb}
-use Rattle.outline.specs.Corners.{point, same, padded}
+use Rattle.outline.specs.Corners.{point, same}
 use Rattle.outline.specs.Clean.{endsIn, pushedUnless, pushed, gathered, pickCount, stay, cleanPolygon}
 use Rattle.outline.specs.Area.{wedge, sides, signedArea}
 use Rattle.outline.specs.Slices.{Wrote, Grew}
 use Rattle.outline.specs.declared.Point.{Point}
 
 module _ {A : Type 0} where
-  pub drop-further : (n m : ℕ) (a b : List A) → n ≤ m → drop n a ≡ drop n b → drop m a ≡ drop m b
-  drop-further n m a b h e =
-      let s : n + (m - n) ≡ m = omega arith in
-      ap (λ (j : ℕ). drop j a) (sym s) ∙ sym (drop-drop (m - n) n a) ∙ ap (drop (m - n)) e ∙ drop-drop (m - n) n b ∙ ap (λ (j : ℕ). drop j b) s
-
   -- two floats are written
   module _ (m : ℕ) (o : List A) (x y : A) (h : 2 * m + 2 ≤ length o) where
     pub two-front : take (2 * (m + 1)) (set (set o (2 * m) x) (2 * m + 1) y) ≡ take (2 * m) o ++ (x ∷ y ∷ [])

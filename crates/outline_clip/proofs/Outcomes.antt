@@ -1,7 +1,7 @@
 -- Laws of `clipOutline`, in the form that the code goes by. Assumes nothing.
 use Prim.Native.Nat.{ℕ, zero, suc, _+_, _-_, _*_, _/_, _%_, _<_, _≤_}
-use mathlib.Core.Path.{_≡_, refl, sym, ap, _∙_}
-use mathlib.Core.Bool.{Bool, true, false, not, _||_}
+use mathlib.Core.Path.{_≡_, sym, ap, _∙_}
+use mathlib.Core.Bool.{true, false}
 use mathlib.Core.List.{List, [], _∷_, _++_}
 use native.Mathlib.Numerals.{add-one}
 use native.Mathlib.Nat.{sub-zero, zero-sub, suc-sub-suc}
@@ -11,15 +11,14 @@ use lib.Seq.{take-suc, take-suc-set, drop-set-lt, take-at}
 use lib.Ieee.{Float}
 use lib.Ieee.Scale.{finite}
 use borrow.Author.Tests.{lt-ltb, le-ltb, eq-eqb, ne-eqb}
-use Rattle.refusal.specs.Number.{numberOf}
+use Rattle.slice_law.specs.Lists.{drop-further}
 use Rattle.refusal.specs.declared.Refusal.the-variants.{Accepted, BadList, NotFinite, NoRoom}
 use Rattle.slice.specs.Every.{every}
-use Rattle.outline_triangulate.specs.Triangulate.{State, triangulatePolygon}
+use Rattle.outline_triangulate.specs.Triangulate.{triangulatePolygon}
 use Rattle.outline_triangulate.specs.Slices.{Gives}
 use Rattle.outline_clip.specs.Outcome.{Outcome, refusedBy, accepted, pickOutcome, clipOutline, outcomeOf}
 use Rattle.outline_triangulate.specs.declared.Cut.{Cut}
 use Rattle.outline_clip.specs.declared.Clipped.{Clipped}
-use Rattle.outline_triangulate.proofs.Writing.{drop-more}
 
 -- ---- copies
 
@@ -33,7 +32,7 @@ module _ (o f o₀ : List ℕ) (i : ℕ) (ho : i < length o) (hf : i < length f)
       ∙ ap (λ (n : ℕ). take n f) (sym (add-one i))
 
   pub copy-rest : drop i o ≡ drop i o₀ → drop (i + 1) (set o i (getD f i 0)) ≡ drop (i + 1) o₀
-  copy-rest e = drop-set-lt (i + 1) o i (getD f i 0) (omega arith) ∙ drop-more i (i + 1) o o₀ (omega arith) e
+  copy-rest e = drop-set-lt (i + 1) o i (getD f i 0) (omega arith) ∙ drop-further i (i + 1) o o₀ (omega arith) e
 
 pub copied : (o f o₀ : List ℕ) (n : ℕ) → take n o ≡ take n f → drop n o ≡ drop n o₀ → o ≡ take n f ++ drop n o₀
 copied o f o₀ n e d = sym (take-append-drop n o) ∙ ap (λ (l : List ℕ). l ++ drop n o) e ∙ ap (λ (l : List ℕ). take n f ++ l) d

@@ -9,8 +9,9 @@ use lib.ListN.{length, getD, take, drop, length-append, take-append-drop}
 use lib.Seq.{length-take-le}
 use lib.Ieee.{Float, lt}
 use borrow.Author.Tests.{eq-eqb, ne-eqb, lt-ltb, le-ltb}
+use Rattle.slice_law.specs.Lists.{drop-further}
 use Rattle.outline.specs.Corners.{point}
-use Rattle.outline_ears.specs.Ears.{cross, tolerance, before, after, earAt, isEar, isFlat, firstEar, firstFlat}
+use Rattle.outline_ears.specs.Ears.{cross, tolerance, earAt, isEar, isFlat, firstEar, firstFlat}
 use Rattle.outline_ears.specs.Inside.{Inside}
 use Rattle.outline_ears.specs.declared.Ear.{Ear}
 use Rattle.outline_ears.specs.declared.Found.{Found}
@@ -22,7 +23,7 @@ use Rattle.outline_triangulate.specs.declared.Remaining.{Remaining}
 use Rattle.outline_triangulate.specs.declared.Cut.{Cut}
 use Rattle.outline_triangulate.specs.declared.Passed.{Passed}
 use Rattle.outline_triangulate.specs.declared.Passed.the-variants.{Without, Fanned}
-use Rattle.outline_triangulate.proofs.Writing.{without-inside, drop-more}
+use Rattle.outline_triangulate.proofs.Writing.{without-inside}
 
 -- ---- states
 
@@ -202,7 +203,7 @@ goes-on v e r out₀ w c b w' c' a h3 hl g i =
       inside = g .inside;
       room = g .room;
       long = hl ∙ i .long;
-      rest = g .rest ∙ drop-more (3 * c .triangles) (3 * c' .triangles) b out₀ (omega (arith, g .grows)) (i .rest);
+      rest = g .rest ∙ drop-further (3 * c .triangles) (3 * c' .triangles) b out₀ (omega (arith, g .grows)) (i .rest);
       reaches = reaches-next v e (stateOf (held w) c b) _ r (w .n) _ (sym (left-length v (w .at) (w .n) (i .inside))) h3 (g .falls) (g .state) (i .reaches);
     }
 
@@ -227,7 +228,7 @@ gives-from s s' r t b₀ b a e h d g =
     let n : length (s .triangles) ≡ 3 * r .triangles = g .count in
     let q : Gives s r b₀ a =
     record {
-      slice = g .slice ∙ ap (λ (l : List ℕ). s .triangles ++ l) (drop-more (3 * t) (length (s .triangles)) b b₀ (omega arith) d);
+      slice = g .slice ∙ ap (λ (l : List ℕ). s .triangles ++ l) (drop-further (3 * t) (length (s .triangles)) b b₀ (omega arith) d);
       count = g .count;
       removed = g .removed;
     } in

@@ -9,6 +9,7 @@ use native.Mathlib.Omega.{arith}
 use lib.ListN.{length, getD, take, drop, set, length-append, length-drop, length-set, drop-of-length-le, List·getD-append}
 use lib.Seq.{drop-cons, take-suc, take-suc-set, drop-set-lt, getD-drop, getD-take, length-take-le, take-take, drop-drop, take-add, take-at, drop-at, take-append-add, getD-append-add}
 use lib.Ieee.{Float}
+use Rattle.slice_law.specs.Lists.{drop-further}
 use Rattle.outline_ears.specs.Inside.{Inside}
 use Rattle.outline_ears.proofs.Laws.{left-length, left-at}
 use Rattle.outline_triangulate.specs.Triangulate.{without, fans, fan, counting}
@@ -195,12 +196,6 @@ fans-end a l k h =
     let d : drop k l ≡ getD l k 0 ∷ drop (k + 1) l = rw (add-one, drop-cons l k 0 (omega arith)) in
     ap (fans a) (d ∙ ap (λ (r : List ℕ). getD l k 0 ∷ r) (drop-of-length-le l {i = k + 1} (omega arith)))
 
--- drop more where what is dropped agrees
-pub drop-more : (n m : ℕ) (a b : List ℕ) → n ≤ m → drop n a ≡ drop n b → drop m a ≡ drop m b
-drop-more n m a b h e =
-    let s : n + (m - n) ≡ m = omega arith in
-    ap (λ (j : ℕ). drop j a) (sym s) ∙ sym (drop-drop (m - n) n a) ∙ ap (drop (m - n)) e ∙ drop-drop (m - n) n b ∙ ap (λ (j : ℕ). drop j b) s
-
 -- what the loop of the fan keeps: what is written and what is to come are the whole
 pub record Fanning (t k : ℕ) (a : ℕ) (l b o : List ℕ) : Type 0 where
   pub front : take (3 * (t + (k - 1))) o ++ fans a (drop k l) ≡ take (3 * t) b ++ fan l
@@ -228,7 +223,7 @@ fanning-next t k a l b o o' h hl f w =
       rest =
           ap (λ (j : ℕ). drop (3 * j) o') e
           ∙ w .rest
-          ∙ drop-more (3 * (t + (k - 1))) (3 * (t + (k - 1) + 1)) o b (omega arith) (f .rest)
+          ∙ drop-further (3 * (t + (k - 1))) (3 * (t + (k - 1) + 1)) o b (omega arith) (f .rest)
           ∙ ap (λ (j : ℕ). drop (3 * j) b) (sym e);
     }
 

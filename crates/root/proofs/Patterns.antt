@@ -177,10 +177,6 @@ pub sqrt-nan : sqrt binary64 nan ≡ nan
 unfolding sqrt
 sqrt-nan = refl
 
-pub nan-made : div binary64 (ofBits binary64 0) (ofBits binary64 0) ≡ nan
-unfolding div ofBits
-nan-made = refl
-
 sqrt-plus-zero : sqrt binary64 (ofBits binary64 0) ≡ ofBits binary64 0
 unfolding sqrt ofBits
 sqrt-plus-zero = refl
@@ -233,10 +229,3 @@ sqrt-below-zero b h g z n =
     let l : b % 2 ^ 63 ≤ 2047 * 2 ^ 52 = not-nan-le b n in
     ap (sqrt binary64) (ofBits-is b ∙ same (le-leb (2 ^ 63) b (omega arith)) refl refl)
     ∙ below-zero (b % 2 ^ 63 / 2 ^ 52) (b % 2 ^ 52) (omega arith) (λ e. omega arith)
-
--- a value that equals itself is no NaN
-pub no-nan : (x : Float) → ne x x ≡ false → T (not (isNan x))
-unfolding isNan
-no-nan nan h = absurd (subst T (sym nan-differs ∙ h) tt)
-no-nan (inf s) h = tt
-no-nan (fin s m e) h = tt

@@ -1,16 +1,16 @@
 -- `sqrt` is IEEE 754's squareRoot: for every value that the format holds, what it gives is correctly rounded. Assumes nothing.
-use mathlib.Core.Path.{_≡_, refl, subst}
+use mathlib.Core.Path.{_≡_, refl, sym, subst}
 use mathlib.Core.Bool.{Bool, true, false}
 use Prim.Native.Nat.{ℕ, zero, suc, _+_, _*_, _^_, _<_}
 use native.Mathlib.Nat.{mul-pos, le-antisymm, le-of-suc-le-suc, lt-of-not-le}
 use native.Mathlib.Omega.{arith}
 use lib.IntN.{ℤ}
 use lib.Dec.{T, eqb, ltb→lt, eqb→eq}
-use lib.Ieee.{Float, nan, inf, fin, Format, low, up, down, fits, lt, eq, below, level}
+use lib.Ieee.{Float, nan, inf, fin, Format, binary64, low, up, down, fits, lt, eq, below, level}
 use lib.Ieee.Exact.{HasValue}
 use lib.Ieee.Fits.{down-pos, up-pos, and-l, and-i, eq→eqb}
 use Rattle.root.specs.Sqrt.{sqrt}
-use Rattle.root.specs.Rounded.{sizeOf, Below, squareOfMean, notBelowZero, Nearest, CorrectlyRounded}
+use Rattle.root.specs.Rounded.{sizeOf, Below, squareOfMean, notBelowZero, Nearest, CorrectlyRounded, Root}
 use Rattle.root.proofs.Nearest.{sqrt-finite, sqrt-nearest}
 
 -- ---- comparisons with zero
@@ -66,7 +66,7 @@ module _ (f : Format) (x : Float) (h : T (fits f x)) (x-plus : T (notBelowZero x
   nearest-root : Nearest f x (sqrt f x)
   nearest-root = record {
     held = sqrt-finite f x (sizeOf x .num) (sizeOf x .den) h (has-size x x-plus .0) x-pos .0;
-    finite = r-plus;
+    finite-not-below-zero = r-plus;
     than-above = λ y k z. nearer y k z .0;
     than-below = λ y k z. nearer y k z .1;
   }
@@ -99,6 +99,10 @@ sqrt-rounded f (fin false (suc m) e) h = record {
   positive = λ y z. nearest-root f (fin false (suc m) e) h tt (size-pos m e);
 }
 
+-- what the code's answers are
+pub root-is : (x r : Float) → T (fits binary64 x) → r ≡ sqrt binary64 x → Root x r
+root-is x r h e = record { value = e; rounded = subst (CorrectlyRounded binary64 x) (sym e) (sqrt-rounded binary64 x h) }
+
 -- ---- and no other number is the root
 
 clash : (a b c d g h : ℕ) → a * (2 * (d * h) * (2 * (d * h))) < (c * h + g * d) * (c * h + g * d) * b → (g * d + c * h) * (g * d + c * h) * b < a * (2 * (h * d) * (2 * (h * d))) → ⊥
@@ -108,7 +112,7 @@ module _ (f : Format) (x r s : Float) (n : Nearest f x r) (m : Nearest f x s) wh
   not-above : Below (sizeOf r) (sizeOf s) → ⊥
   not-above k =
       clash (sizeOf x .num) (sizeOf x .den) (sizeOf r .num) (sizeOf r .den) (sizeOf s .num) (sizeOf s .den)
-      (n .than-above s (m .held) (m .finite) k) (m .than-below r (n .held) (n .finite) k)
+      (n .than-above s (m .held) (m .finite-not-below-zero) k) (m .than-below r (n .held) (n .finite-not-below-zero) k)
 
 same-number : (r s : Float) → T (notBelowZero r) → T (notBelowZero s) → (Below (sizeOf r) (sizeOf s) → ⊥) → (Below (sizeOf s) (sizeOf r) → ⊥) → T (eq r s)
 unfolding eq
@@ -128,4 +132,4 @@ same-number (fin false m e) (fin false n d) h k a b = and-i (eqb p q) true (eq�
 
 -- Two numbers that are both nearest are equal.
 pub nearest-unique : (f : Format) (x r s : Float) → Nearest f x r → Nearest f x s → T (eq r s)
-nearest-unique f x r s n m = same-number r s (n .finite) (m .finite) (not-above f x r s n m) (not-above f x s r m n)
+nearest-unique f x r s n m = same-number r s (n .finite-not-below-zero) (m .finite-not-below-zero) (not-above f x r s n m) (not-above f x s r m n)

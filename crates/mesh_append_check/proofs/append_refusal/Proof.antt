@@ -2,7 +2,8 @@
 use denote.Ref.{now}
 use lib.ListN.{length}
 use Rattle.mesh_check.specs.State.{state, badMesh}
-use Rattle.mesh_check.proofs.Sound.{neither, sound, vertices-fit, triangles-fit, places-limit}
+use Rattle.slice_law.specs.Bools.{neither}
+use Rattle.mesh_check.proofs.Sound.{sound, vertices-fit, triangles-fit, places-limit}
 use Rattle.mesh_append_check.proofs.Tests.{bad-test, finite-tests, room-test, append-bad, append-not-finite, append-no-room, append-accepted}
 use borrow.Author.Needs.{needs}
 use native.Mathlib.Omega.{arith}

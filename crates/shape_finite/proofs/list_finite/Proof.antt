@@ -5,7 +5,7 @@ use denote.Ref.{now}
 use mathlib.Core.Path.{_∙_}
 use lib.Ieee.Scale.{finite}
 use Rattle.slice.specs.Every.{every}
-use Rattle.slice.proofs.Next.{every-all}
+use Rattle.slice.specs.EveryLaws.{every-all}
 use Rattle.shape.specs.Drawing.{listOf}
 use Rattle.shape_finite.proofs.list_finite.Statement.{statement}
 use Rattle.shape_finite.proofs.list_finite.Tie as tie
