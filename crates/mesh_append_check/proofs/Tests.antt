@@ -7,7 +7,7 @@ use lib.Dec.{ltb}
 use lib.Ieee.Scale.{finite}
 use Rattle.mesh_spec.specs.Mesh.{append}
 use Rattle.refusal.specs.declared.Refusal.the-variants.{Accepted, NotFinite, NoRoom, BadMesh}
-use Rattle.slice.specs.Every.{wholePlaces, every}
+use Rattle.slice.specs.Every.{countedPlaces, every}
 use Rattle.mesh_check.specs.State.{State, meshOf, badMesh, notFinite, Sound}
 use Rattle.mesh_check.proofs.Stored.{appended-vertices, appended-triangles}
 use Rattle.slice_law.specs.Bools.{not-and}
@@ -43,10 +43,10 @@ module _ (s o : State) where
 
 module _ (s o : State) (ok : Sound s) (fine : Sound o) where
   abbrev vp : ℕ
-  vp = wholePlaces (length (s .vertices))
+  vp = countedPlaces (length (s .vertices))
 
   abbrev tp : ℕ
-  tp = wholePlaces (length (s .triangles))
+  tp = countedPlaces (length (s .triangles))
 
   room-is : noRoom (append (meshOf s) (meshOf o)) s ≡ (ltb vp (s .mesh .vertices + o .mesh .vertices) || ltb tp (s .mesh .triangles + o .mesh .triangles))
   unfolding noRoom

@@ -10,35 +10,35 @@ use borrow.Author.Tests.{ltb-true, ltb-false, lt-ltb, le-ltb, not-false}
 use Rattle.slice_law.specs.Bools.{neither, or-true}
 use Rattle.refusal.specs.declared.Refusal.{Refusal}
 use Rattle.refusal.specs.declared.Refusal.the-variants.{Accepted, NotFinite, BadMesh}
-use Rattle.slice.specs.Every.{wholePlaces, every}
+use Rattle.slice.specs.Every.{countedPlaces, every}
 use Rattle.refusal.specs.Accepted.{isAccepted}
 use Rattle.mesh_check.specs.State.{State, badMesh, notFinite, checkOf, Sound}
 use Rattle.slice_bounded.specs.Bounded.{isBounded}
 use Rattle.mesh_move_affine.specs.Affine.{FiniteVertices, Tested}
 use Rattle.slice.specs.EveryLaws.{every-at}
 
-pub places-three : (n len : ℕ) → n ≤ wholePlaces len → 3 * n ≤ len
-unfolding wholePlaces
+pub places-three : (n len : ℕ) → n ≤ countedPlaces len → 3 * n ≤ len
+unfolding countedPlaces
 places-three n len h = omega arith
 
-pub places-limit : (n len : ℕ) → n ≤ wholePlaces len → n ≤ 4294967295
-unfolding wholePlaces
+pub places-limit : (n len : ℕ) → n ≤ countedPlaces len → n ≤ 4294967295
+unfolding countedPlaces
 places-limit n len h = omega arith
 
 module _ (s : State) (good : badMesh s ≡ false) where
-  parts : ((ltb (wholePlaces (length (s .vertices))) (s .mesh .vertices) || ltb (wholePlaces (length (s .triangles))) (s .mesh .triangles)) ≡ false) ×
+  parts : ((ltb (countedPlaces (length (s .vertices))) (s .mesh .vertices) || ltb (countedPlaces (length (s .triangles))) (s .mesh .triangles)) ≡ false) ×
       (not (every (λ i. ltb i (s .mesh .vertices)) (take (3 * s .mesh .triangles) (s .triangles))) ≡ false)
   unfolding badMesh
-  parts = neither (ltb (wholePlaces (length (s .vertices))) (s .mesh .vertices) || ltb (wholePlaces (length (s .triangles))) (s .mesh .triangles))
+  parts = neither (ltb (countedPlaces (length (s .vertices))) (s .mesh .vertices) || ltb (countedPlaces (length (s .triangles))) (s .mesh .triangles))
       (not (every (λ i. ltb i (s .mesh .vertices)) (take (3 * s .mesh .triangles) (s .triangles)))) good
 
-  pub vertices-fit : s .mesh .vertices ≤ wholePlaces (length (s .vertices))
-  vertices-fit = ltb-false (wholePlaces (length (s .vertices))) (s .mesh .vertices)
-      (neither (ltb (wholePlaces (length (s .vertices))) (s .mesh .vertices)) (ltb (wholePlaces (length (s .triangles))) (s .mesh .triangles)) (parts .0) .0)
+  pub vertices-fit : s .mesh .vertices ≤ countedPlaces (length (s .vertices))
+  vertices-fit = ltb-false (countedPlaces (length (s .vertices))) (s .mesh .vertices)
+      (neither (ltb (countedPlaces (length (s .vertices))) (s .mesh .vertices)) (ltb (countedPlaces (length (s .triangles))) (s .mesh .triangles)) (parts .0) .0)
 
-  pub triangles-fit : s .mesh .triangles ≤ wholePlaces (length (s .triangles))
-  triangles-fit = ltb-false (wholePlaces (length (s .triangles))) (s .mesh .triangles)
-      (neither (ltb (wholePlaces (length (s .vertices))) (s .mesh .vertices)) (ltb (wholePlaces (length (s .triangles))) (s .mesh .triangles)) (parts .0) .1)
+  pub triangles-fit : s .mesh .triangles ≤ countedPlaces (length (s .triangles))
+  triangles-fit = ltb-false (countedPlaces (length (s .triangles))) (s .mesh .triangles)
+      (neither (ltb (countedPlaces (length (s .vertices))) (s .mesh .vertices)) (ltb (countedPlaces (length (s .triangles))) (s .mesh .triangles)) (parts .0) .1)
 
   pub sound : Sound s
   sound = record {
@@ -70,15 +70,15 @@ check-sound s r e h = sound s (not-bad (badMesh s) (cond (notFinite s) NotFinite
 
 -- ---- the tests in their order
 module _ (s : State) where
-  pub bad-vertices : wholePlaces (length (s .vertices)) < s .mesh .vertices → true ≡ badMesh s
+  pub bad-vertices : countedPlaces (length (s .vertices)) < s .mesh .vertices → true ≡ badMesh s
   unfolding badMesh
-  bad-vertices h = rw (lt-ltb (wholePlaces (length (s .vertices))) (s .mesh .vertices) h)
+  bad-vertices h = rw (lt-ltb (countedPlaces (length (s .vertices))) (s .mesh .vertices) h)
 
-  pub bad-triangles : wholePlaces (length (s .triangles)) < s .mesh .triangles → true ≡ badMesh s
+  pub bad-triangles : countedPlaces (length (s .triangles)) < s .mesh .triangles → true ≡ badMesh s
   unfolding badMesh
-  bad-triangles h = rw (lt-ltb (wholePlaces (length (s .triangles))) (s .mesh .triangles) h, or-true (ltb (wholePlaces (length (s .vertices))) (s .mesh .vertices)))
+  bad-triangles h = rw (lt-ltb (countedPlaces (length (s .triangles))) (s .mesh .triangles) h, or-true (ltb (countedPlaces (length (s .vertices))) (s .mesh .vertices)))
 
-  pub bad-numbers : (b : Bool) → s .mesh .vertices ≤ wholePlaces (length (s .vertices)) → s .mesh .triangles ≤ wholePlaces (length (s .triangles))
+  pub bad-numbers : (b : Bool) → s .mesh .vertices ≤ countedPlaces (length (s .vertices)) → s .mesh .triangles ≤ countedPlaces (length (s .triangles))
       → b ≡ every (λ i. ltb i (s .mesh .vertices)) (take (3 * s .mesh .triangles) (s .triangles)) → not b ≡ badMesh s
   unfolding badMesh
-  bad-numbers b h k e = rw (le-ltb (wholePlaces (length (s .vertices))) (s .mesh .vertices) h, le-ltb (wholePlaces (length (s .triangles))) (s .mesh .triangles) k) (ap {B = Bool} not e)
+  bad-numbers b h k e = rw (le-ltb (countedPlaces (length (s .vertices))) (s .mesh .vertices) h, le-ltb (countedPlaces (length (s .triangles))) (s .mesh .triangles) k) (ap {B = Bool} not e)

@@ -25,7 +25,7 @@ use Rattle.solid_parts.specs.Parts.{PartsRun}
 use Rattle.weld.specs.declared.Welder.{Welder}
 use Rattle.weld.specs.Rep.{Held, held, Ready, Holds, Over, Rep, Begun}
 use Rattle.weld.specs.Runs.{Fits, holds-fits}
-use Rattle.slice.specs.Every.{wholePlaces}
+use Rattle.slice.specs.Every.{countedPlaces}
 use Rattle.mesh_check.specs.State.{state}
 use Rattle.tessellate_spec.specs.Solid.{partsFinite}
 use Rattle.tessellate_spec.specs.Outcome.{tooFewPlaces, shortWork}
@@ -48,15 +48,15 @@ work-enough nv nw e = ltb-false nw (2 * (nv / 3)) e
 -- ---- the places
 module _ (m : Mesh) (k : Held) where
   fitting : Fits m k → tooFewPlaces m (length (k .vertices)) (length (k .triangles)) ≡ false
-  unfolding tooFewPlaces wholePlaces
-  fitting f = λ j. le-ltb (wholePlaces (length (k .vertices))) (length (m .vertices)) (f .0) j || le-ltb (wholePlaces (length (k .triangles))) (length (m .triangles)) (f .1) j
+  unfolding tooFewPlaces countedPlaces
+  fitting f = λ j. le-ltb (countedPlaces (length (k .vertices))) (length (m .vertices)) (f .0) j || le-ltb (countedPlaces (length (k .triangles))) (length (m .triangles)) (f .1) j
 
   overfull : Over m k → tooFewPlaces m (length (k .vertices)) (length (k .triangles)) ≡ true
-  unfolding tooFewPlaces wholePlaces
-  overfull (inl w) = λ j. lt-ltb (wholePlaces (length (k .vertices))) (length (m .vertices)) w j || ltb (wholePlaces (length (k .triangles))) (length (m .triangles))
+  unfolding tooFewPlaces countedPlaces
+  overfull (inl w) = λ j. lt-ltb (countedPlaces (length (k .vertices))) (length (m .vertices)) w j || ltb (countedPlaces (length (k .triangles))) (length (m .triangles))
   overfull (inr w) =
-      (λ j. ltb (wholePlaces (length (k .vertices))) (length (m .vertices)) || lt-ltb (wholePlaces (length (k .triangles))) (length (m .triangles)) w j)
-      ∙ or-true (ltb (wholePlaces (length (k .vertices))) (length (m .vertices)))
+      (λ j. ltb (countedPlaces (length (k .vertices))) (length (m .vertices)) || lt-ltb (countedPlaces (length (k .triangles))) (length (m .triangles)) w j)
+      ∙ or-true (ltb (countedPlaces (length (k .vertices))) (length (m .vertices)))
 
 -- all parts were welded, from an empty mesh
 module _ (parts : List Soup) (k : Held) (ready : Ready k) (rep : k .st .finite ≡ true → Rep (appendParts noMesh parts) noMesh k) where
