@@ -1,12 +1,12 @@
--- `ieee::back` meets its contract. Assumes nothing.
+-- `ieee::minus_as_float` meets its contract. Assumes nothing.
 use borrow.Author.Needs.{needs}
 use mathlib.Core.Path.{sym, ap, subst}
 use lib.Dec.{T}
 use lib.IntN.{ℤ}
 use lib.Ieee.{binary64, ofInt, inFloat}
 use Rattle.ieee.proofs.Signed.{sub-fits, minus-back, minus-in-float}
-use Rattle.ieee.proofs.back.Statement.{statement}
-use Rattle.ieee.proofs.back.Tie as tie
+use Rattle.ieee.proofs.minus_as_float.Statement.{statement}
+use Rattle.ieee.proofs.minus_as_float.Tie as tie
 
 cast-result : tie.Need-cast-result
 cast-result c = search needs
@@ -22,5 +22,5 @@ int-to-float-result c =
 returns : tie.Need-returns
 returns c = ap (λ (z : ℤ). ofInt binary64 z) (minus-back (c .before .args .n) (c .before .pre))
 
-pub back-spec : {M : Type 1} → statement M
-back-spec = tie.close (tie.spec cast-result sub-result int-to-float-result returns)
+pub minus-as-float-spec : {M : Type 1} → statement M
+minus-as-float-spec = tie.close (tie.spec cast-result sub-result int-to-float-result returns)

@@ -1,12 +1,12 @@
--- `ieee::forth` meets its contract. Assumes nothing.
+-- `ieee::as_float` meets its contract. Assumes nothing.
 use borrow.Author.Needs.{needs}
 use mathlib.Core.Path.{sym, ap, subst}
 use lib.Dec.{T}
 use lib.IntN.{ℤ}
 use lib.Ieee.{binary64, ofInt, inFloat}
 use Rattle.ieee.proofs.Signed.{read, in-float}
-use Rattle.ieee.proofs.forth.Statement.{statement}
-use Rattle.ieee.proofs.forth.Tie as tie
+use Rattle.ieee.proofs.as_float.Statement.{statement}
+use Rattle.ieee.proofs.as_float.Tie as tie
 
 cast-result : tie.Need-cast-result
 cast-result c = search needs
@@ -19,5 +19,5 @@ int-to-float-result c =
 returns : tie.Need-returns
 returns c = ap (λ (z : ℤ). ofInt binary64 z) (read (c .before .args .n) (c .before .pre))
 
-pub forth-spec : {M : Type 1} → statement M
-forth-spec = tie.close (tie.spec cast-result int-to-float-result returns)
+pub as-float-spec : {M : Type 1} → statement M
+as-float-spec = tie.close (tie.spec cast-result int-to-float-result returns)
