@@ -1,16 +1,16 @@
 -- `sqrt` is IEEE 754's squareRoot: for every value that the format holds, what it gives is correctly rounded. Assumes nothing.
-use mathlib.Core.Path.{_≡_, refl, sym, subst}
+use mathlib.Core.Path.{_≡_, refl, subst}
 use mathlib.Core.Bool.{Bool, true, false}
 use Prim.Native.Nat.{ℕ, zero, suc, _+_, _*_, _^_, _<_}
 use native.Mathlib.Nat.{mul-pos, le-antisymm, le-of-suc-le-suc, lt-of-not-le}
 use native.Mathlib.Omega.{arith}
 use lib.IntN.{ℤ}
 use lib.Dec.{T, eqb, ltb→lt, eqb→eq}
-use lib.Ieee.{Float, nan, inf, fin, Format, binary64, low, up, down, fits, lt, eq, below, level}
+use lib.Ieee.{Float, nan, inf, fin, Format, low, up, down, fits, lt, eq, below, level}
 use lib.Ieee.Exact.{HasValue}
 use lib.Ieee.Fits.{down-pos, up-pos, and-l, and-i, eq→eqb}
 use Rattle.root.specs.Sqrt.{sqrt}
-use Rattle.root.specs.Rounded.{sizeOf, Below, squareOfMean, notBelowZero, Nearest, CorrectlyRounded, Root}
+use Rattle.root.specs.Rounded.{sizeOf, Below, squareOfMean, notBelowZero, Nearest, CorrectlyRounded}
 use Rattle.root.proofs.Nearest.{sqrt-finite, sqrt-nearest}
 
 -- ---- comparisons with zero
@@ -63,7 +63,7 @@ module _ (f : Format) (x : Float) (h : T (fits f x)) (x-plus : T (notBelowZero x
       x-pos (has-size x x-plus .1) (has-size (sqrt f x) r-plus .1) (has-size y y-plus .1)
       h (has-size x x-plus .0) (has-size (sqrt f x) r-plus .0) k (has-size y y-plus .0)
 
-  nearest-root : Nearest f x (sqrt f x)
+  pub nearest-root : Nearest f x (sqrt f x)
   nearest-root = record {
     held = sqrt-finite f x (sizeOf x .num) (sizeOf x .den) h (has-size x x-plus .0) x-pos .0;
     finite-not-below-zero = r-plus;
@@ -98,10 +98,6 @@ sqrt-rounded f (fin false (suc m) e) h = record {
   negative = λ z. absurd (not-negative m e z);
   positive = λ y z. nearest-root f (fin false (suc m) e) h tt (size-pos m e);
 }
-
--- what the code's answers are
-pub root-is : (x r : Float) → T (fits binary64 x) → r ≡ sqrt binary64 x → Root x r
-root-is x r h e = record { value = e; rounded = subst (CorrectlyRounded binary64 x) (sym e) (sqrt-rounded binary64 x h) }
 
 -- ---- and no other number is the root
 

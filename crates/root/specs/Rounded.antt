@@ -36,6 +36,10 @@ notBelowZero (fin true m e) = false
 notBelowZero nan = false
 notBelowZero (inf s) = false
 
+-- y times y is x exactly, for x and y that are finite and not below zero.
+abbrev pub SquareOf : Float → Float → Type 0
+SquareOf y x = sizeOf y .num * sizeOf y .num * sizeOf x .den ≡ sizeOf x .num * (sizeOf y .den * sizeOf y .den)
+
 -- r is the value of the format f that is nearest to the square root of x, which is finite and above zero.
 -- A value y above r is farther from the root exactly where the root is below the mean of r and y, and so where x is below the square of that mean. A value y below
 -- r is farther exactly where x is above that square. Both are strict, for every other y: there are no ties, and no second nearest value.
@@ -54,7 +58,9 @@ pub record CorrectlyRounded (f : Format) (x r : Float) : Type 0 where
   pub negative : T (lt x plusZero) → r ≡ nan
   pub positive : T (lt plusZero x) → T (lt x (inf false)) → Nearest f x r
 
--- What the function `sqrt` ensures of its result r: the root as Sqrt.antt works it out, which is IEEE 754's.
+-- What the function `sqrt` ensures of its result r: the root as Sqrt.antt works it out, which is IEEE 754's; and so where a y of the format that is
+-- finite and not below zero is the root of x, r is y.
 pub record Root (x r : Float) : Type 0 where
   pub value : r ≡ sqrt binary64 x
   pub rounded : CorrectlyRounded binary64 x r
+  pub exact : (y : Float) → T (notBelowZero x) → T (fits binary64 y) → T (notBelowZero y) → SquareOf y x → r ≡ y
