@@ -1,12 +1,12 @@
 // The root, the sine and the cosine, for programs in other languages: tests/numbers links them.
 ghost use mathlib.Core.Path.{_≡_};
 ghost use lib.Ieee.{binary64};
-ghost use Rattle.root.specs.Sqrt as Root;
+ghost use Rattle.root.specs.Rounded.{Root};
 ghost use Rattle.trig.specs.Trig.{sinCos};
 
 #[no_mangle]
 pub extern "C" fn sizturga_sqrt(x: f64) -> f64
-    ensures { λ r. ⌜ r ≡ Root.sqrt binary64 x ⌝ }
+    ensures { λ r. ⌜ Root x r ⌝ }
 {
     root::sqrt(x)
 }

@@ -7,7 +7,8 @@ use lib.ListN.{replicate, set}
 use lib.Ieee.{Float, binary64, ofBits}
 use Rattle.math.specs.declared.Vec3.{Vec3}
 use Rattle.transform.specs.declared.TransformOp.{TransformOp}
-use Rattle.transform.specs.declared.TransformOp.the-variants.{Translate, RotateOrigin, Scale}
+use Rattle.transform.specs.declared.TransformOp.the-variants.{Translate, RotateOrigin}
+use Rattle.transform.specs.Ops.{mostOps, noOps}
 use Rattle.refusal.specs.Number.{numberOf}
 use Rattle.shape.specs.declared.Shape.{Shape}
 use Rattle.shape.specs.declared.OwnSystem.the-variants.{Inherited}
@@ -29,10 +30,6 @@ counts n k = record { vertices = n; triangles = k }
 abbrev pub unread : List Float
 unread = replicate 1 (ofBits binary64 0)
 
--- 16 operations, of which none counts: Scale(1.0)
-abbrev pub noOps : List TransformOp
-noOps = replicate 16 (Scale (ofBits binary64 4607182418800017408))
-
 -- a shape in a coordinate system, without operations
 abbrev pub solidIn : CoordSystem → Shape → List Float → ℕ → ℕ → ℕ → ℕ → ℕ → Outcome
 solidIn system shape list segments rings = tessellateOf (job shape list Inherited system (record { segments = segments; «sphere_rings» = rings }) false noOps 0)
@@ -43,7 +40,7 @@ solidOf = solidIn Cartesian
 
 -- 16 operations, of which two count: a rotation about an axis through the origin, then a translation
 abbrev pub turnThenMove : Vec3 → Float → Vec3 → List TransformOp
-turnThenMove axis angle by = set (replicate 16 (Translate by)) 0 (RotateOrigin axis angle)
+turnThenMove axis angle by = set (replicate mostOps (Translate by)) 0 (RotateOrigin axis angle)
 
 -- the refusal's number, the counts and the slices' final lists are those of the outcome of a tessellation
 pub record Tells (o : Outcome) (number nv nt : ℕ) (vs : List Float) (ts ws : List ℕ) : Type 0 where

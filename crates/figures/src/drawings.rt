@@ -43,7 +43,7 @@ pub fn sphere(center: Vec3, name: &[u8], radius: f64, segments: usize, rings: us
 
 pub fn spheres() {
     let origin = at(0.0, 0.0, 0.0);
-    let least = slice_bytes::from_bits(1);
+    let least = ieee::from_bits(1);
     sphere(origin, b"0", 0.0, 32, 16);
     sphere(origin, b"1", 1.0, 3, 2);
     sphere(origin, b"1", 1.0, 32, 16);

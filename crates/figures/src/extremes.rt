@@ -26,7 +26,7 @@ fn segments() {
 
 fn angles() {
     // 1000.0 has the bits 408F400000000000.
-    let next = slice_bytes::from_bits(0x408F400000000001);
+    let next = ieee::from_bits(0x408F400000000001);
     about_z(b"1000", 1000.0);
     about_z(b"the float after 1000", next);
 }

@@ -1,8 +1,6 @@
 // Segments of arcs, and roots.
-
-const PI: f64 = 3.141592653589793;
-
-const TAU: f64 = 6.283185307179586;
+use ieee::PI;
+use ieee::TAU;
 
 fn arc(name: &[u8], span: f64) {
     figures_text::bytes(b"32 segments, span ");
@@ -27,5 +25,5 @@ pub fn all() {
     arc(b"TAU", TAU);
     root(b"4", 4.0);
     root(b"-0", -0.0);
-    root(b"2^-1074", slice_bytes::from_bits(1));
+    root(b"2^-1074", ieee::from_bits(1));
 }

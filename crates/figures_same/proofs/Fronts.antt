@@ -5,7 +5,8 @@ use mathlib.Core.List.{List, [], _∷_}
 use Prim.Native.Nat.{ℕ, _+_, _≤_, _<_}
 use native.Mathlib.Omega.{arith}
 use lib.ListN.{length, drop, getD}
-use Rattle.slice.proofs.Next.{next-at, drop-end}
+use Rattle.slice_law.specs.Bools.{and-false}
+use Rattle.slice_law.specs.Next.{next-at, drop-end}
 use Rattle.figures_same.specs.Begins.{begins}
 
 module _ {A : Type 0} (same : A → A → Bool) where
@@ -14,11 +15,7 @@ module _ {A : Type 0} (same : A → A → Bool) where
   unfolding begins
   begins-short l [] h = absurd (omega arith)
   begins-short [] (y ∷ front) h = refl
-  begins-short (x ∷ l) (y ∷ front) h = and-false (same x y) ∙ ap {B = Bool} (λ (b : Bool). same x y && b) (begins-short l front (omega arith))
-    where
-      and-false : (b : Bool) → false ≡ (b && false)
-      and-false true = refl
-      and-false false = refl
+  begins-short (x ∷ l) (y ∷ front) h = sym (and-false (same x y)) ∙ ap {B = Bool} (λ (b : Bool). same x y && b) (begins-short l front (omega arith))
 
   module _ (l front : List A) (i : ℕ) where
     -- what is left to compare decides

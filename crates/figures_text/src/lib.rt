@@ -45,7 +45,7 @@ fn by_bits(b: u64) {
 
 // A float without its sign: whole numbers and halves in decimal.
 fn magnitude(b: u64) {
-    let y = slice_bytes::from_bits(b);
+    let y = ieee::from_bits(b);
     if is_whole(y) {
         count(ieee::ceil_to_usize(y));
         return;
@@ -67,7 +67,7 @@ pub fn float_bits(b: u64) {
 }
 
 pub fn float(x: f64) {
-    float_bits(slice_bytes::bits_of(x));
+    float_bits(ieee::bits_of(x));
 }
 
 // A measure, or its refusal.

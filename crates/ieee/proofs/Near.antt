@@ -94,7 +94,7 @@ half-up (fin true m e) p g h =
 -- ---- `nearest_whole`, by the ways through its tests
 
 abbrev pub whole : Float → ℕ → Whole
-whole v k = record { value = v; quarter = k }
+whole v k = record { value = v; «mod_4» = k }
 
 gone≤ : (M D : ℕ) → M * 1 + 0 * 1 * D ≤ 0 → M ≡ 0
 gone≤ M D h = omega arith

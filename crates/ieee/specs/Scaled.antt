@@ -55,7 +55,7 @@ odd-digits f s m e t =
 pow-le : (i j : ℕ) → 2 ^ i ≤ 2 ^ j → i ≤ j
 pow-le i j h = le-of-suc-le-suc (lt-of-not-le (λ (g : suc j ≤ i). not-le-of-lt (pow-lt g) h))
 
-step : (f : Format) (e : ℤ) → down e ≤ 2 ^ low f → (j : ℕ) × (up e * 2 ^ low f ≡ 2 ^ j * down e)
+pub step : (f : Format) (e : ℤ) → down e ≤ 2 ^ low f → (j : ℕ) × (up e * 2 ^ low f ≡ 2 ^ j * down e)
 step f (pos k) h = (k + low f, sym (pow-add 2 k (low f)) ∙ sym (mul-one (2 ^ (k + low f))))
 step f (negsuc k) h = (
   low f - suc k,

@@ -37,6 +37,6 @@ mod4 (negsuc n) = 3 - n % 4
 -- At a NaN and an infinity: the value itself, and 0.
 unfoldable pub wholeOf : Float → Whole
 unfolding nearestWhole mod4
-wholeOf nan = record { value = nan; quarter = 0 }
-wholeOf (inf s) = record { value = inf s; quarter = 0 }
-wholeOf (fin s m e) = record { value = ofInt binary64 (nearestWhole (fin s m e)); quarter = mod4 (nearestWhole (fin s m e)) }
+wholeOf nan = record { value = nan; «mod_4» = 0 }
+wholeOf (inf s) = record { value = inf s; «mod_4» = 0 }
+wholeOf (fin s m e) = record { value = ofInt binary64 (nearestWhole (fin s m e)); «mod_4» = mod4 (nearestWhole (fin s m e)) }

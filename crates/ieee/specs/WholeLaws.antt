@@ -59,7 +59,7 @@ nearest-zero (fin true zero e) z = ap (λ (x : ℕ). negℤ (pos x)) (ap (λ (x 
 nearest-zero (fin s (suc m) e) z = absurd z
 
 -- of a number, both parts by `nearestWhole`
-pub finite-whole : (p : Float) → T (finite p) → wholeOf p ≡ record { value = ofInt binary64 (nearestWhole p); quarter = mod4 (nearestWhole p) }
+pub finite-whole : (p : Float) → T (finite p) → wholeOf p ≡ record { value = ofInt binary64 (nearestWhole p); «mod_4» = mod4 (nearestWhole p) }
 unfolding wholeOf
 finite-whole nan t = absurd t
 finite-whole (inf s) t = absurd t

@@ -10,17 +10,28 @@ ghost use mathlib.Core.Bool.{true, false};
 ghost use Rattle.ieee.specs.Number.{minimum, maximum, absolute, ceiling};
 ghost use Rattle.ieee.specs.Whole.{wholeOf, nearestMagnitude, mod4};
 
+mod bits;
+
+pub use bits::bits_of;
+pub use bits::from_bits;
+
+// core::f64::consts::PI.
+pub const PI: f64 = 3.141592653589793;
+
+// core::f64::consts::TAU.
+pub const TAU: f64 = 6.283185307179586;
+
 // A whole number as a float, and that number modulo 4.
 pub struct Whole {
     pub value: f64,
-    pub quarter: u64,
+    pub mod_4: u64,
 }
 
 // From 2^52 on a float is whole.
 const ALL_WHOLE: f64 = 4503599627370496.0;
 
 // From 2^63 on a float is a multiple of 4.
-const ALL_QUARTERS: f64 = 9223372036854775808.0;
+const ALL_MULTIPLES_OF_4: f64 = 9223372036854775808.0;
 
 // The first float above every u64.
 const PAST_U64: f64 = 18446744073709551616.0;
@@ -84,8 +95,8 @@ fn half_up(a: f64) -> u64
     (std::num::truncating_f64_to_u64(a + a) + 1) / 2
 }
 
-// n as a float.
-fn forth(n: u64) -> f64
+// n as a float, which is exact.
+fn as_float(n: u64) -> f64
     requires { ⌜ n ≤ 2 ^ 52 ⌝ }
     ensures { λ r. ⌜ r ≡ Ieee.ofInt binary64 (pos n) ⌝ }
 {
@@ -93,7 +104,7 @@ fn forth(n: u64) -> f64
 }
 
 // −n as a float, +0.0 for n = 0.
-fn back(n: u64) -> f64
+fn minus_as_float(n: u64) -> f64
     requires { ⌜ n ≤ 2 ^ 52 ⌝ }
     ensures { λ r. ⌜ r ≡ Ieee.ofInt binary64 (negℤ (pos n)) ⌝ }
 {
@@ -101,7 +112,7 @@ fn back(n: u64) -> f64
 }
 
 // −n modulo 4.
-fn quarter_back(n: u64) -> u64
+fn minus_mod_4(n: u64) -> u64
     ensures { λ r. ⌜ r ≡ mod4 (negℤ (pos n)) ⌝ }
 {
     (4 - n % 4) % 4
@@ -115,35 +126,29 @@ pub fn nearest_whole(p: f64) -> Whole
         if p > -ALL_WHOLE {
             let n = half_up(-p);
             Whole {
-                value: back(n),
-                quarter: quarter_back(n),
+                value: minus_as_float(n),
+                mod_4: minus_mod_4(n),
             }
-        } else if p > -ALL_QUARTERS {
+        } else if p > -ALL_MULTIPLES_OF_4 {
             Whole {
                 value: p,
-                quarter: quarter_back(std::num::truncating_f64_to_u64(-p)),
+                mod_4: minus_mod_4(std::num::truncating_f64_to_u64(-p)),
             }
         } else {
-            Whole {
-                value: p,
-                quarter: 0,
-            }
+            Whole { value: p, mod_4: 0 }
         }
     } else if p < ALL_WHOLE {
         let n = half_up(p);
         Whole {
-            value: forth(n),
-            quarter: n % 4,
+            value: as_float(n),
+            mod_4: n % 4,
         }
-    } else if p < ALL_QUARTERS {
+    } else if p < ALL_MULTIPLES_OF_4 {
         Whole {
             value: p,
-            quarter: std::num::truncating_f64_to_u64(p) % 4,
+            mod_4: std::num::truncating_f64_to_u64(p) % 4,
         }
     } else {
-        Whole {
-            value: p,
-            quarter: 0,
-        }
+        Whole { value: p, mod_4: 0 }
     }
 }

@@ -5,6 +5,7 @@ use mathlib.Core.List.{[], _∷_}
 use lib.ListN.{getD}
 use lib.Ieee.{Float, nan, binary64, add, sub, mul, div, ne}
 use Rattle.ieee.specs.Same.{plusZero}
+use Rattle.trig.specs.declared.Radians.{Radians}
 use Rattle.trig.specs.Trig.{sinCos}
 use Rattle.math.specs.declared.Vec3.{Vec3}
 use Rattle.math_matrix.specs.declared.Row.{Row}
@@ -17,20 +18,20 @@ entry a i j = getD (a .m) (i * 4 + j) nan
 
 -- `m[i]`: row i, from 0 to 3
 abbrev pub rowOf : Mat4 → ℕ → Row
-rowOf a i = record { a = entry a i 0; b = entry a i 1; c = entry a i 2; d = entry a i 3 }
+rowOf a i = record { x = entry a i 0; y = entry a i 1; z = entry a i 2; w = entry a i 3 }
 
 -- a row of four numbers
 abbrev pub newRow : Float → Float → Float → Float → Row
-newRow a b c d = record { a = a; b = b; c = c; d = d }
+newRow x y z w = record { x = x; y = y; z = z; w = w }
 
 -- `Mat4::from_row_major`, of four rows
 unfoldable pub fromRows : Row → Row → Row → Row → Mat4
 fromRows p q r s = record {
   m =
-      p .a ∷ p .b ∷ p .c ∷ p .d
-      ∷ q .a ∷ q .b ∷ q .c ∷ q .d
-      ∷ r .a ∷ r .b ∷ r .c ∷ r .d
-      ∷ s .a ∷ s .b ∷ s .c ∷ s .d ∷ [];
+      p .x ∷ p .y ∷ p .z ∷ p .w
+      ∷ q .x ∷ q .y ∷ q .z ∷ q .w
+      ∷ r .x ∷ r .y ∷ r .z ∷ r .w
+      ∷ s .x ∷ s .y ∷ s .z ∷ s .w ∷ [];
 }
 
 -- the row that the identity and every translation, scaling and rotation end with
@@ -68,7 +69,7 @@ scaling s =
 abbrev times : Float → Float → Float → Float
 times t u v = mul binary64 (mul binary64 t u) v
 
--- `Mat4::rotation` from its line `let t` on: a is the axis of length 1, s and c are the sine and the cosine
+-- `Mat4::rotation` from its line `let t` on: a is `normalized` of the axis, s and c are the sine and the cosine
 unfoldable pub turn : Vec3 → Float → Float → Mat4
 turn a s c =
     let t = sub binary64 one c in
@@ -93,21 +94,24 @@ turn a s c =
     plusZero)
     lastRow
 
--- `Mat4::rotation`, the angle in radians
-unfoldable pub rotation : Vec3 → Float → Mat4
-rotation axis angle = turn (normalized axis) (sinCos angle .sin) (sinCos angle .cos)
+-- `Mat4::rotation`
+unfoldable pub rotation : Vec3 → Radians → Mat4
+rotation axis angle = turn (normalized axis) (sinCos (angle .0) .sin) (sinCos (angle .0) .cos)
 
--- the sum of four terms, starting at +0.0
-abbrev sum4 : Float → Float → Float → Float → Float
-sum4 u v w x = add binary64 (add binary64 (add binary64 (add binary64 plusZero u) v) w) x
+-- one entry of `Mul for Mat4`: the sum of `self[i][k] * o[k][j]` for k from 0 to 3, starting at +0.0; r is row i of `self`, and p, q, s, t are column j of `o`
+unfoldable pub productEntry : Row → Float → Float → Float → Float → Float
+productEntry r p q s t =
+    add binary64 (add binary64 (add binary64 (add binary64 plusZero (mul binary64 (r .x) p)) (mul binary64 (r .y) q)) (mul binary64 (r .z) s))
+    (mul binary64 (r .w) t)
 
--- one row of `Mul for Mat4`, from the row r of `self` and the rows p, q, s, t of `o`: entry j is the sum of `self[i][k] * o[k][j]` for k from 0 to 3
+-- one row of `Mul for Mat4`, from the row r of `self` and the rows p, q, s, t of `o`
 unfoldable pub timesRows : Row → Row → Row → Row → Row → Row
+unfolding productEntry
 timesRows r p q s t = record {
-  a = sum4 (mul binary64 (r .a) (p .a)) (mul binary64 (r .b) (q .a)) (mul binary64 (r .c) (s .a)) (mul binary64 (r .d) (t .a));
-  b = sum4 (mul binary64 (r .a) (p .b)) (mul binary64 (r .b) (q .b)) (mul binary64 (r .c) (s .b)) (mul binary64 (r .d) (t .b));
-  c = sum4 (mul binary64 (r .a) (p .c)) (mul binary64 (r .b) (q .c)) (mul binary64 (r .c) (s .c)) (mul binary64 (r .d) (t .c));
-  d = sum4 (mul binary64 (r .a) (p .d)) (mul binary64 (r .b) (q .d)) (mul binary64 (r .c) (s .d)) (mul binary64 (r .d) (t .d));
+  x = productEntry r (p .x) (q .x) (s .x) (t .x);
+  y = productEntry r (p .y) (q .y) (s .y) (t .y);
+  z = productEntry r (p .z) (q .z) (s .z) (t .z);
+  w = productEntry r (p .w) (q .w) (s .w) (t .w);
 }
 
 -- the same, from the row r of `self` and `o`
@@ -122,8 +126,8 @@ product a o = fromRows (productRow (rowOf a 0) o) (productRow (rowOf a 1) o) (pr
 unfoldable pub along : Row → Vec3 → Float
 along r p =
     add binary64
-    (add binary64 (add binary64 (mul binary64 (r .a) (p .x)) (mul binary64 (r .b) (p .y))) (mul binary64 (r .c) (p .z)))
-    (r .d)
+    (add binary64 (add binary64 (mul binary64 (r .x) (p .x)) (mul binary64 (r .y) (p .y))) (mul binary64 (r .z) (p .z)))
+    (r .w)
 
 -- the last lines of `Mat4::transform_point`: x, y, z divided by w unless w is 0 or 1
 unfoldable pub overW : Float → Float → Float → Float → Vec3
@@ -142,9 +146,9 @@ unfoldable pub detRows : Row → Row → Row → Float
 detRows p q r =
     add binary64
     (sub binary64
-    (mul binary64 (p .a) (minor (q .b) (r .c) (q .c) (r .b)))
-    (mul binary64 (p .b) (minor (q .a) (r .c) (q .c) (r .a))))
-    (mul binary64 (p .c) (minor (q .a) (r .b) (q .b) (r .a)))
+    (mul binary64 (p .x) (minor (q .y) (r .z) (q .z) (r .y)))
+    (mul binary64 (p .y) (minor (q .x) (r .z) (q .z) (r .x))))
+    (mul binary64 (p .z) (minor (q .x) (r .y) (q .y) (r .x)))
 
 -- the same of a matrix: its first three rows and columns
 unfoldable pub determinant : Mat4 → Float

@@ -3,13 +3,14 @@ ghost use mathlib.Core.Path.{_≡_};
 ghost use Prim.Native.Nat.{_<_};
 ghost use Rattle.math_matrix.specs.Mat as Mat;
 use math::Vec3;
+use trig::Radians;
 
-// A row of a matrix.
+// A row of a matrix: what it takes of x, y, z and of w, which is 1 for a point.
 pub struct Row {
-    pub a: f64,
-    pub b: f64,
-    pub c: f64,
-    pub d: f64,
+    pub x: f64,
+    pub y: f64,
+    pub z: f64,
+    pub w: f64,
 }
 
 // Four rows of four numbers, row after row. The translation is in the last column.
@@ -17,10 +18,10 @@ pub struct Mat4 {
     pub m: [f64; 16],
 }
 
-pub fn new_row(a: f64, b: f64, c: f64, d: f64) -> Row
-    ensures { λ r. ⌜ r ≡ Mat.newRow a b c d ⌝ }
+pub fn new_row(x: f64, y: f64, z: f64, w: f64) -> Row
+    ensures { λ r. ⌜ r ≡ Mat.newRow x y z w ⌝ }
 {
-    Row { a, b, c, d }
+    Row { x, y, z, w }
 }
 
 // The matrix of four rows.
@@ -29,22 +30,22 @@ pub fn from_rows(p: Row, q: Row, r: Row, s: Row) -> Mat4
 {
     Mat4 {
         m: [
-            p.a,
-            p.b,
-            p.c,
-            p.d,
-            q.a,
-            q.b,
-            q.c,
-            q.d,
-            r.a,
-            r.b,
-            r.c,
-            r.d,
-            s.a,
-            s.b,
-            s.c,
-            s.d,
+            p.x,
+            p.y,
+            p.z,
+            p.w,
+            q.x,
+            q.y,
+            q.z,
+            q.w,
+            r.x,
+            r.y,
+            r.z,
+            r.w,
+            s.x,
+            s.y,
+            s.z,
+            s.w,
         ],
     }
 }
@@ -57,10 +58,10 @@ pub fn row_of(a: Mat4, i: usize) -> Row
     let m = a.m;
     let k = i * 4;
     Row {
-        a: m[k],
-        b: m[k + 1],
-        c: m[k + 2],
-        d: m[k + 3],
+        x: m[k],
+        y: m[k + 1],
+        z: m[k + 2],
+        w: m[k + 3],
     }
 }
 
@@ -97,7 +98,7 @@ pub fn scaling(s: Vec3) -> Mat4
     )
 }
 
-// The rotation about a, of length 1, by the angle whose sine is s and whose cosine is c.
+// The rotation about a, which is the axis divided by its length, or zero, by the angle whose sine is s and whose cosine is c.
 fn turn(a: Vec3, s: f64, c: f64) -> Mat4
     ensures { λ r. ⌜ r ≡ Mat.turn a s c ⌝ }
 {
@@ -113,10 +114,10 @@ fn turn(a: Vec3, s: f64, c: f64) -> Mat4
     )
 }
 
-// The right-handed rotation about an axis through the origin by an angle in radians.
-pub fn rotation(axis: Vec3, angle: f64) -> Mat4
+// The right-handed rotation about an axis through the origin.
+pub fn rotation(axis: Vec3, angle: Radians) -> Mat4
     ensures { λ r. ⌜ r ≡ Mat.rotation axis angle ⌝ }
 {
-    let p = trig::sin_cos(angle);
+    let p = trig::sin_cos(angle.0);
     turn(math::normalized(axis), p.sin, p.cos)
 }

@@ -13,13 +13,14 @@ use Rattle.transform.specs.Checks.{opCountWithin, opsFinite, opsAnglesWithin}
 use Rattle.mesh_spec.specs.Mesh.{append}
 use Rattle.refusal.specs.declared.Refusal.{Refusal}
 use Rattle.refusal.specs.declared.Refusal.the-variants.{Accepted, NotFinite, AngleTooLarge, BadList, PointNotFinite, NoRoom, BadMesh}
-use Rattle.slice.specs.Every.{wholePlaces, every}
+use Rattle.slice.specs.Every.{countedPlaces, every}
 use Rattle.refusal.specs.Accepted.{isAccepted}
 use Rattle.mesh_check.specs.State.{State, meshOf, badMesh, notFinite, Sound}
 use Rattle.mesh_move_affine.specs.Affine.{FiniteVertices}
 use Rattle.mesh_append_check.specs.Append.{noRoom, appendRefusal}
 use Rattle.mesh_transform_check.specs.Transform.{transformed, transformRefusal}
-use Rattle.mesh_check.proofs.Sound.{not-bad, sound, finite-vertices, places-three, places-limit, neither}
+use Rattle.slice_law.specs.Bools.{neither}
+use Rattle.mesh_check.proofs.Sound.{not-bad, sound, finite-vertices, places-three, places-limit}
 use Rattle.mesh_check.proofs.Stored.{appended-vertices, appended-triangles}
 
 last : (a b c : Bool) → isAccepted (cond a BadMesh (cond b NotFinite (cond c NoRoom Accepted))) ≡ true → c ≡ false
@@ -91,11 +92,11 @@ module _ (s o : State) (r : Refusal) (e : r ≡ appendRefusal s o) (h : isAccept
   abbrev tn : ℕ
   tn = s .mesh .triangles + o .mesh .triangles
 
-  rooms : (vn ≤ wholePlaces (length (s .vertices))) × (tn ≤ wholePlaces (length (s .triangles)))
+  rooms : (vn ≤ countedPlaces (length (s .vertices))) × (tn ≤ countedPlaces (length (s .triangles)))
   unfolding noRoom
   rooms =
-      let vp = wholePlaces (length (s .vertices)) in
-      let tp = wholePlaces (length (s .triangles)) in
+      let vp = countedPlaces (length (s .vertices)) in
+      let tp = countedPlaces (length (s .triangles)) in
       let p = neither (ltb vp (length (append (meshOf s) (meshOf o) .vertices))) (ltb tp (length (append (meshOf s) (meshOf o) .triangles))) roomy in (
         omega (arith, ltb-false vp (length (append (meshOf s) (meshOf o) .vertices)) (p .0), appended-vertices s o soundS soundO),
         omega (arith, ltb-false tp (length (append (meshOf s) (meshOf o) .triangles)) (p .1), appended-triangles s o soundS soundO),

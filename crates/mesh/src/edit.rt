@@ -87,7 +87,7 @@ pub fn transform(
     }
     let a = transform::fold(ops, op_count, degrees);
     mesh_move::move_finite(vertices, n, a);
-    if math_matrix_map::determinant(a) < 0.0 {
+    if math_matrix_ops::determinant(a) < 0.0 {
         mesh_write::turn_all(triangles, k);
         return Edited { refusal, mesh };
     }

@@ -7,10 +7,10 @@ use lib.Dec.{ltb}
 use lib.Ieee.Scale.{finite}
 use Rattle.mesh_spec.specs.Mesh.{append}
 use Rattle.refusal.specs.declared.Refusal.the-variants.{Accepted, NotFinite, NoRoom, BadMesh}
-use Rattle.slice.specs.Every.{wholePlaces, every}
+use Rattle.slice.specs.Every.{countedPlaces, every}
 use Rattle.mesh_check.specs.State.{State, meshOf, badMesh, notFinite, Sound}
 use Rattle.mesh_check.proofs.Stored.{appended-vertices, appended-triangles}
-use Rattle.mesh_check.proofs.Tests.{not-both}
+use Rattle.slice_law.specs.Bools.{not-and}
 use Rattle.mesh_append_check.specs.Append.{noRoom, appendRefusal}
 
 -- ---- the tests of either mesh
@@ -20,7 +20,7 @@ bad-test s o e f h = sym (ap₂ _||_ e f) ∙ h
 pub finite-tests : (s o : State) {x y b : Bool} → x ≡ every finite (take (3 * s .mesh .vertices) (s .vertices)) → y ≡ every finite (take (3 * o .mesh .vertices) (o .vertices))
     → not (x && y) ≡ b → (notFinite s || notFinite o) ≡ b
 unfolding notFinite
-finite-tests s o {x} {y} e f h = sym (ap₂ (λ (p q : Bool). not p || not q) e f) ∙ not-both x y ∙ h
+finite-tests s o {x} {y} e f h = sym (ap₂ (λ (p q : Bool). not p || not q) e f) ∙ not-and x y ∙ h
 
 -- ---- which refusal they give
 module _ (s o : State) where
@@ -43,10 +43,10 @@ module _ (s o : State) where
 
 module _ (s o : State) (ok : Sound s) (fine : Sound o) where
   abbrev vp : ℕ
-  vp = wholePlaces (length (s .vertices))
+  vp = countedPlaces (length (s .vertices))
 
   abbrev tp : ℕ
-  tp = wholePlaces (length (s .triangles))
+  tp = countedPlaces (length (s .triangles))
 
   room-is : noRoom (append (meshOf s) (meshOf o)) s ≡ (ltb vp (s .mesh .vertices + o .mesh .vertices) || ltb tp (s .mesh .triangles + o .mesh .triangles))
   unfolding noRoom

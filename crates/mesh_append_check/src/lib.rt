@@ -27,8 +27,8 @@ pub fn append_refusal(
     if !(slice::all_finite(vertices, 3 * n) & slice::all_finite(other_vertices, 3 * more_n)) {
         return Refusal::NotFinite;
     }
-    if (slice::whole_places(vertices.len()) < n + more_n)
-        | (slice::whole_places(triangles.len()) < k + more_k)
+    if (slice::counted_places(vertices.len()) < n + more_n)
+        | (slice::counted_places(triangles.len()) < k + more_k)
     {
         return Refusal::NoRoom;
     }

@@ -7,7 +7,7 @@ use Rattle.math.specs.declared.Vec3.{Vec3}
 use Rattle.math.specs.declared.BoundingBox.{BoundingBox}
 use Rattle.math.specs.Box.{include}
 use Rattle.mesh_spec.specs.Measures.{including}
-use Rattle.slice.proofs.Next.{Next, drop-end}
+use Rattle.slice_law.specs.Next.{Next, drop-end}
 
 module _ (l : List Vec3) where
   pub include-turn : (i : ℕ) (p q : Vec3) (b c total : BoundingBox) → Next l i p → q ≡ p → c ≡ include b q → including b (drop i l) ≡ total → including c (drop (i + 1) l) ≡ total

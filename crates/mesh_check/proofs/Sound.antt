@@ -1,48 +1,44 @@
 -- What check 8 shows of a state. Assumes nothing.
 use mathlib.Core.Path.{_≡_, refl, sym, ap, _∙_}
-use mathlib.Core.Bool.{Bool, true, false, not, _||_, cond, true≢false, false≢true}
-use mathlib.Core.List.{List}
-use Prim.Native.Nat.{ℕ, _+_, _*_, _/_, _≤_, _<_}
+use mathlib.Core.Bool.{Bool, true, false, not, _||_, cond, false≢true}
+use Prim.Native.Nat.{ℕ, _*_, _≤_, _<_}
 use native.Mathlib.Omega.{arith}
 use lib.ListN.{length, take, getD}
 use lib.Dec.{ltb}
 use lib.Ieee.Scale.{finite}
 use borrow.Author.Tests.{ltb-true, ltb-false, lt-ltb, le-ltb, not-false}
+use Rattle.slice_law.specs.Bools.{neither, or-true}
 use Rattle.refusal.specs.declared.Refusal.{Refusal}
 use Rattle.refusal.specs.declared.Refusal.the-variants.{Accepted, NotFinite, BadMesh}
-use Rattle.slice.specs.Every.{wholePlaces, every}
+use Rattle.slice.specs.Every.{countedPlaces, every}
 use Rattle.refusal.specs.Accepted.{isAccepted}
 use Rattle.mesh_check.specs.State.{State, badMesh, notFinite, checkOf, Sound}
-use Rattle.slice_bounded.specs.Bounded.{within}
+use Rattle.slice_bounded.specs.Bounded.{isBounded}
 use Rattle.mesh_move_affine.specs.Affine.{FiniteVertices, Tested}
-use Rattle.slice.proofs.Next.{every-at}
+use Rattle.slice.specs.EveryLaws.{every-at}
 
-pub neither : (a b : Bool) → (a || b) ≡ false → (a ≡ false) × (b ≡ false)
-neither true b e = absurd (true≢false e)
-neither false b e = (refl, e)
-
-pub places-three : (n len : ℕ) → n ≤ wholePlaces len → 3 * n ≤ len
-unfolding wholePlaces
+pub places-three : (n len : ℕ) → n ≤ countedPlaces len → 3 * n ≤ len
+unfolding countedPlaces
 places-three n len h = omega arith
 
-pub places-limit : (n len : ℕ) → n ≤ wholePlaces len → n ≤ 4294967295
-unfolding wholePlaces
+pub places-limit : (n len : ℕ) → n ≤ countedPlaces len → n ≤ 4294967295
+unfolding countedPlaces
 places-limit n len h = omega arith
 
 module _ (s : State) (good : badMesh s ≡ false) where
-  parts : ((ltb (wholePlaces (length (s .vertices))) (s .mesh .vertices) || ltb (wholePlaces (length (s .triangles))) (s .mesh .triangles)) ≡ false) ×
+  parts : ((ltb (countedPlaces (length (s .vertices))) (s .mesh .vertices) || ltb (countedPlaces (length (s .triangles))) (s .mesh .triangles)) ≡ false) ×
       (not (every (λ i. ltb i (s .mesh .vertices)) (take (3 * s .mesh .triangles) (s .triangles))) ≡ false)
   unfolding badMesh
-  parts = neither (ltb (wholePlaces (length (s .vertices))) (s .mesh .vertices) || ltb (wholePlaces (length (s .triangles))) (s .mesh .triangles))
+  parts = neither (ltb (countedPlaces (length (s .vertices))) (s .mesh .vertices) || ltb (countedPlaces (length (s .triangles))) (s .mesh .triangles))
       (not (every (λ i. ltb i (s .mesh .vertices)) (take (3 * s .mesh .triangles) (s .triangles)))) good
 
-  pub vertices-fit : s .mesh .vertices ≤ wholePlaces (length (s .vertices))
-  vertices-fit = ltb-false (wholePlaces (length (s .vertices))) (s .mesh .vertices)
-      (neither (ltb (wholePlaces (length (s .vertices))) (s .mesh .vertices)) (ltb (wholePlaces (length (s .triangles))) (s .mesh .triangles)) (parts .0) .0)
+  pub vertices-fit : s .mesh .vertices ≤ countedPlaces (length (s .vertices))
+  vertices-fit = ltb-false (countedPlaces (length (s .vertices))) (s .mesh .vertices)
+      (neither (ltb (countedPlaces (length (s .vertices))) (s .mesh .vertices)) (ltb (countedPlaces (length (s .triangles))) (s .mesh .triangles)) (parts .0) .0)
 
-  pub triangles-fit : s .mesh .triangles ≤ wholePlaces (length (s .triangles))
-  triangles-fit = ltb-false (wholePlaces (length (s .triangles))) (s .mesh .triangles)
-      (neither (ltb (wholePlaces (length (s .vertices))) (s .mesh .vertices)) (ltb (wholePlaces (length (s .triangles))) (s .mesh .triangles)) (parts .0) .1)
+  pub triangles-fit : s .mesh .triangles ≤ countedPlaces (length (s .triangles))
+  triangles-fit = ltb-false (countedPlaces (length (s .triangles))) (s .mesh .triangles)
+      (neither (ltb (countedPlaces (length (s .vertices))) (s .mesh .vertices)) (ltb (countedPlaces (length (s .triangles))) (s .mesh .triangles)) (parts .0) .1)
 
   pub sound : Sound s
   sound = record {
@@ -59,7 +55,7 @@ module _ (s : State) (good : badMesh s ≡ false) where
   unfolding notFinite
   finite-vertices h = record { within = sound .vertices; finite = not-false (every finite (take (3 * s .mesh .vertices) (s .vertices))) h }
 
-  pub tested : notFinite s ≡ false → (small : Bool) → small ≡ every within (take (3 * s .mesh .vertices) (s .vertices)) → Tested (s .vertices) (s .mesh .vertices) small
+  pub tested : notFinite s ≡ false → (small : Bool) → small ≡ every isBounded (take (3 * s .mesh .vertices) (s .vertices)) → Tested (s .vertices) (s .mesh .vertices) small
   tested h small e = record { vertices = finite-vertices h; bounded = λ t. sym e ∙ t }
 
 -- ---- a call that was accepted
@@ -73,20 +69,16 @@ unfolding checkOf
 check-sound s r e h = sound s (not-bad (badMesh s) (cond (notFinite s) NotFinite Accepted) (sym (ap {B = Bool} isAccepted e) ∙ h))
 
 -- ---- the tests in their order
-or-true : (b : Bool) → (b || true) ≡ true
-or-true true = refl
-or-true false = refl
-
 module _ (s : State) where
-  pub bad-vertices : wholePlaces (length (s .vertices)) < s .mesh .vertices → true ≡ badMesh s
+  pub bad-vertices : countedPlaces (length (s .vertices)) < s .mesh .vertices → true ≡ badMesh s
   unfolding badMesh
-  bad-vertices h = rw (lt-ltb (wholePlaces (length (s .vertices))) (s .mesh .vertices) h)
+  bad-vertices h = rw (lt-ltb (countedPlaces (length (s .vertices))) (s .mesh .vertices) h)
 
-  pub bad-triangles : wholePlaces (length (s .triangles)) < s .mesh .triangles → true ≡ badMesh s
+  pub bad-triangles : countedPlaces (length (s .triangles)) < s .mesh .triangles → true ≡ badMesh s
   unfolding badMesh
-  bad-triangles h = rw (lt-ltb (wholePlaces (length (s .triangles))) (s .mesh .triangles) h, or-true (ltb (wholePlaces (length (s .vertices))) (s .mesh .vertices)))
+  bad-triangles h = rw (lt-ltb (countedPlaces (length (s .triangles))) (s .mesh .triangles) h, or-true (ltb (countedPlaces (length (s .vertices))) (s .mesh .vertices)))
 
-  pub bad-numbers : (b : Bool) → s .mesh .vertices ≤ wholePlaces (length (s .vertices)) → s .mesh .triangles ≤ wholePlaces (length (s .triangles))
+  pub bad-numbers : (b : Bool) → s .mesh .vertices ≤ countedPlaces (length (s .vertices)) → s .mesh .triangles ≤ countedPlaces (length (s .triangles))
       → b ≡ every (λ i. ltb i (s .mesh .vertices)) (take (3 * s .mesh .triangles) (s .triangles)) → not b ≡ badMesh s
   unfolding badMesh
-  bad-numbers b h k e = rw (le-ltb (wholePlaces (length (s .vertices))) (s .mesh .vertices) h, le-ltb (wholePlaces (length (s .triangles))) (s .mesh .triangles) k) (ap {B = Bool} not e)
+  bad-numbers b h k e = rw (le-ltb (countedPlaces (length (s .vertices))) (s .mesh .vertices) h, le-ltb (countedPlaces (length (s .triangles))) (s .mesh .triangles) k) (ap {B = Bool} not e)

@@ -1,16 +1,16 @@
 -- The slices of a stored mesh, by parts of the slices before. Assumes nothing.
-use mathlib.Core.Path.{_≡_, refl, sym, ap, _∙_}
-use mathlib.Core.List.{List, [], _∷_, _++_, map, map-map}
-use Prim.Native.Nat.{ℕ, zero, suc, _+_, _*_, _≤_, _<_}
+use mathlib.Core.Path.{_≡_, refl, ap, _∙_}
+use mathlib.Core.List.{List, _++_, map, map-map}
+use Prim.Native.Nat.{ℕ, _+_, _*_}
 use native.Mathlib.Omega.{arith}
 use lib.ListN.{length, take, drop, length-append, length-map, take-append-drop}
 use lib.Seq.{paste, length-take-le}
 use lib.Ieee.{Float}
+use Rattle.slice_law.specs.Lists.{map-take}
 use Rattle.math.specs.declared.Vec3.{Vec3}
 use Rattle.math_matrix.specs.declared.Mat4.{Mat4}
 use Rattle.math_matrix.specs.Mat.{transformPoint}
 use Rattle.mesh_balance_spec.specs.Soup.{Tri, mapTri}
-use Rattle.mesh_balance_spec.specs.Soup.{flip as flipTri}
 use Rattle.mesh_balance_spec.specs.Buffer.{flat, tris, flat-append}
 use Rattle.mesh_spec.specs.Mesh.{Mesh, append, flip}
 use Rattle.mesh_spec.specs.Edits.{moved}
@@ -92,11 +92,6 @@ module _ (s : State) (ok : Sound s) where
       (length-map ts flipTri ∙ mesh-triangles) (triples a) refl
 
 -- ---- append
-take-map : {A B : Type 0} (f : A → B) (i : ℕ) (l : List A) → map f (take i l) ≡ take i (map f l)
-take-map f zero l = refl
-take-map f (suc i) [] = refl
-take-map {B = B} f (suc i) (x ∷ l) = ap {B = List B} (λ r. f x ∷ r) (take-map f i l)
-
 module _ (s o : State) (ok : Sound s) (fine : Sound o) where
   abbrev vn : ℕ
   vn = s .mesh .vertices + o .mesh .vertices
@@ -128,7 +123,7 @@ module _ (s o : State) (ok : Sound s) (fine : Sound o) where
       flat-append (meshOf s .triangles) (map (mapTri (λ i. i + length (meshOf s .vertices))) (meshOf o .triangles))
       ∙ (λ j. numbers s ok j ++ flat-map (λ i. i + length (meshOf s .vertices)) (meshOf o .triangles) j)
       ∙ (λ j. take (3 * s .mesh .triangles) (s .triangles) ++ map (λ (i : ℕ). i + mesh-vertices s ok j) (numbers o fine j))
-      ∙ ap {B = List ℕ} (λ (r : List ℕ). take (3 * s .mesh .triangles) (s .triangles) ++ r) (take-map up (3 * o .mesh .triangles) (o .triangles))
+      ∙ ap {B = List ℕ} (λ (r : List ℕ). take (3 * s .mesh .triangles) (s .triangles) ++ r) (map-take up (3 * o .mesh .triangles) (o .triangles))
 
   three-sum : (a b : ℕ) → 3 * (a + b) ≡ 3 * a + 3 * b
   three-sum a b = omega arith

@@ -1,6 +1,6 @@
 -- Which refusal a call answers, by the tests in their order. Assumes nothing.
 use mathlib.Core.Path.{_≡_, refl, sym, ap, _∙_}
-use mathlib.Core.Bool.{Bool, true, false, not, _&&_, _||_, cond}
+use mathlib.Core.Bool.{Bool, true, false, not, cond}
 use mathlib.Core.List.{map}
 use Prim.Native.Nat.{_*_}
 use lib.ListN.{take}
@@ -15,11 +15,6 @@ use Rattle.slice.specs.Every.{every}
 use Rattle.mesh_check.specs.State.{State, badMesh, notFinite, checkOf}
 
 -- ---- tests
--- a conjunction that fails, as the failure of either part
-pub not-both : (x y : Bool) → (not x || not y) ≡ not (x && y)
-not-both true y = refl
-not-both false y = refl
-
 -- the test of the coordinates, as the loop answers it
 pub finite-test : (s : State) (r b : Bool) → r ≡ every finite (take (3 * s .mesh .vertices) (s .vertices)) → not r ≡ b → notFinite s ≡ b
 unfolding notFinite

@@ -6,7 +6,7 @@ use lib.ListN.{length, take, drop, getD}
 use lib.Dec.{ltb}
 use lib.Ieee.{Float}
 use lib.Ieee.Scale.{finite}
-use Rattle.slice.specs.Every.{wholePlaces, placesOf, every}
+use Rattle.slice.specs.Every.{countedPlaces, placesOf, every}
 use Rattle.mesh_balance_spec.specs.Buffer.{flat, tris}
 use Rattle.mesh_spec.specs.Mesh.{Mesh}
 use Rattle.mesh_spec.specs.Slices.{flatV, points}
@@ -37,7 +37,7 @@ stored m s = record {
 
 -- 8: a count beyond its slice or above 4,294,967,295, or a triangle number at or above the vertex count
 unfoldable pub badMesh : State → Bool
-unfolding wholePlaces every
+unfolding countedPlaces every
 badMesh s =
     ltb (placesOf (s .vertices)) (s .mesh .vertices)
     || ltb (placesOf (s .triangles)) (s .mesh .triangles)

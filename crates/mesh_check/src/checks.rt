@@ -9,10 +9,10 @@ pub fn bad_mesh(mesh: TriMesh, vertices: &[f64], triangles: &[u32]) -> bool
 {
     let n = mesh.vertices;
     let k = mesh.triangles;
-    if slice::whole_places(vertices.len()) < n {
+    if slice::counted_places(vertices.len()) < n {
         return true;
     }
-    if slice::whole_places(triangles.len()) < k {
+    if slice::counted_places(triangles.len()) < k {
         return true;
     }
     !slice::all_below(triangles, 3 * k, n as u32)

@@ -12,7 +12,8 @@ use Rattle.mesh_balance_spec.specs.Soup.{Tri}
 use Rattle.mesh_balance_spec.specs.Count.{edges, uses, here, Closed as Even}
 use Rattle.mesh_spec.specs.Mesh.{Mesh}
 use Rattle.slice.specs.Every.{every}
-use Rattle.slice.proofs.Next.{Next, every-next}
+use Rattle.slice_law.specs.Next.{Next}
+use Rattle.slice.specs.EveryLaws.{every-next}
 use Rattle.mesh_closed.specs.Even.{evenEdge, evenTriangle, ClosedTest}
 
 -- ---- the loop over the triangles, which ends at the first that fails a test

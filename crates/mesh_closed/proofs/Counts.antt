@@ -9,7 +9,7 @@ use lib.Dec.{eqb}
 use Rattle.mesh_balance_spec.specs.Soup.{Tri, round}
 use Rattle.mesh_balance_spec.specs.Count.{edges, uses, here}
 use Rattle.mesh_balance_spec.specs.Buffer.{tris}
-use Rattle.slice.proofs.Next.{Next, drop-end}
+use Rattle.slice_law.specs.Next.{Next, drop-end}
 
 -- ---- lengths
 pub length-tris-whole : (l : List ℕ) → length (tris l) ≡ length l / 3

@@ -5,7 +5,7 @@ use Prim.Native.Nat.{ℕ, _*_, _-_}
 use lib.ListN.{length, take, drop, replicate}
 use lib.Ieee.{Float, binary64, ofBits}
 use Rattle.slice.specs.Cleared.{clearedFrom}
-use Rattle.slice.proofs.Clearing.{cleared-all}
+use Rattle.slice.specs.ClearedLaws.{cleared-all}
 use Rattle.mesh_balance_spec.specs.Buffer.{flat}
 use Rattle.refusal.specs.declared.Refusal.{Refusal}
 use Rattle.mesh_spec.specs.Mesh.{Mesh}

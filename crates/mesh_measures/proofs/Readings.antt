@@ -24,7 +24,7 @@ use Rattle.refusal.specs.Accepted.{isAccepted}
 use Rattle.mesh_check.specs.State.{State, meshOf, checkOf, Sound}
 use Rattle.mesh_triples.specs.Triples.{tripleAt, cornersOf, AllWithin}
 use Rattle.mesh_measures.specs.Measures.{measureOf, boundingBoxOf}
-use Rattle.slice.proofs.Next.{getD-next}
+use Rattle.slice_law.specs.Next.{getD-next}
 use Rattle.mesh_triples.proofs.NextTriples.{next-counted, next-points}
 use Rattle.mesh_box.specs.ZeroBox.{zeroBox}
 

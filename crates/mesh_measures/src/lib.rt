@@ -30,7 +30,7 @@ pub fn signed_volume(mesh: TriMesh, vertices: &[f64], triangles: &[u32]) -> Meas
     let x = mesh_sums::volume_sum(vertices, triangles, k) / 6.0;
     Measured {
         refusal,
-        bits: slice_bytes::bits_of(x),
+        bits: ieee::bits_of(x),
     }
 }
 
@@ -46,7 +46,7 @@ pub fn enclosed_volume(mesh: TriMesh, vertices: &[f64], triangles: &[u32]) -> Me
     let x = ieee::abs(mesh_sums::volume_sum(vertices, triangles, k) / 6.0);
     Measured {
         refusal,
-        bits: slice_bytes::bits_of(x),
+        bits: ieee::bits_of(x),
     }
 }
 
@@ -62,7 +62,7 @@ pub fn area(mesh: TriMesh, vertices: &[f64], triangles: &[u32]) -> Measured
     let x = mesh_sums::area_sum(vertices, triangles, k);
     Measured {
         refusal,
-        bits: slice_bytes::bits_of(x),
+        bits: ieee::bits_of(x),
     }
 }
 

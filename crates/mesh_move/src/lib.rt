@@ -21,7 +21,7 @@ fn stay_finite_divided(vertices: &[f64], n: usize, a: Mat4) -> bool
     let mut ok = true;
     let mut i = 0;
     while i < n {
-        ok = ok & math::is_finite(math_matrix_map::transform_point(a, vertex(vertices, i)));
+        ok = ok & math::is_finite(math_matrix_ops::transform_point(a, vertex(vertices, i)));
         i += 1;
     }
     ok
@@ -34,7 +34,7 @@ fn move_divided(vertices: &mut [f64], n: usize, a: Mat4)
 {
     let mut i = 0;
     while i < n {
-        let p = math_matrix_map::transform_point(a, vertex(vertices, i));
+        let p = math_matrix_ops::transform_point(a, vertex(vertices, i));
         put_vertex(vertices, i, p);
         i += 1;
     }
@@ -72,7 +72,7 @@ pub fn stay_finite(vertices: &[f64], n: usize, a: Mat4) -> bool
     requires { ⌜ 3 * n ≤ length (now vertices) ⌝ }
     ensures { λ r. ⌜ r ≡ every vFinite (map (transformPoint a) (points (take (3 * n) (now (vertices .entry))))) ⌝ }
 {
-    if slice_bounded::all_within(vertices, 3 * n) {
+    if slice_bounded::all_bounded(vertices, 3 * n) {
         return keep_finite(vertices, n, a, true);
     }
     if slice::all_finite(vertices, 3 * n) {

@@ -18,7 +18,7 @@ use Rattle.slice.specs.Every.{every}
 use Rattle.mesh_spec.specs.Slices.{vecOf, vertexAt}
 use Rattle.mesh_triples.specs.Triples.{eachTo, movedTriple}
 use Rattle.mesh_move_affine.specs.Affine.{Affine, affinePoint, Movable}
-use Rattle.slice.proofs.Next.{every-at}
+use Rattle.slice.specs.EveryLaws.{every-at}
 use Rattle.mesh_triples.proofs.Each.{each-read}
 
 -- ---- the tests of the last row

@@ -1,4 +1,4 @@
--- A bounded matrix keeps vertices within the bounds finite. Assumes nothing.
+-- A bounded matrix keeps bounded vertices finite. Assumes nothing.
 use mathlib.Core.Path.{_≡_, refl, sym, ap, _∙_}
 use mathlib.Core.Bool.{Bool, true, false, _&&_, false≢true}
 use mathlib.Core.List.{List, [], _∷_, map}
@@ -9,68 +9,58 @@ use lib.Dec.{T}
 use lib.Ieee.{Float, nan}
 use lib.Ieee.Bits.{is-true}
 use lib.Ieee.Scale.{finite}
+use Rattle.slice_law.specs.Bools.{and-left, and-right, and-both}
 use Rattle.ieee.specs.Same.{true-T}
 use Rattle.math.specs.declared.Vec3.{Vec3}
 use Rattle.math_matrix.specs.declared.Mat4.{Mat4}
 use Rattle.math.specs.Vec.{vFinite}
 use Rattle.math_matrix.specs.Mat.{entry, rowOf, along, transformPoint}
 use Rattle.slice.specs.Every.{every}
-use Rattle.slice.proofs.Next.{every-at}
+use Rattle.slice.specs.EveryLaws.{every-at}
 use Rattle.mesh_spec.specs.Slices.{points}
-use Rattle.slice_bounded.specs.Bounded.{within}
-use Rattle.slice_bounded.specs.Laws.{within-finite, every-finite, row-finite}
+use Rattle.slice_bounded.specs.Bounded.{isBounded}
+use Rattle.slice_bounded.specs.Laws.{bounded-finite, every-finite, row-finite}
 use Rattle.mesh_move_affine.specs.Affine.{Affine, affinePoint, RowsWithin, BoundedMatrix, FiniteVertices, Tested}
 use Rattle.mesh_move_affine.proofs.AffineLaws.{affine-point}
 
-pub and-left : (a b : Bool) → (a && b) ≡ true → a ≡ true
-and-left true b e = refl
-and-left false b e = e
-
-pub and-right : (a b : Bool) → (a && b) ≡ true → b ≡ true
-and-right true b e = e
-and-right false b e = absurd (false≢true e)
-
-and-both : (a b : Bool) → a ≡ true → b ≡ true → (a && b) ≡ true
-and-both a b p q = rw (p, q)
-
 -- the test of the first three rows
-pub rows-within : (a : Mat4) (r : Bool) → 12 ≤ length (a .m) → r ≡ every within (take 12 (a .m)) → r ≡ true → RowsWithin a
-rows-within a r l e t i j u v = true-T (within (entry a i j)) (every-at within (a .m) 12 (i * 4 + j) nan (sym e ∙ t) (omega arith) l)
+pub rows-within : (a : Mat4) (r : Bool) → 12 ≤ length (a .m) → r ≡ every isBounded (take 12 (a .m)) → r ≡ true → RowsWithin a
+rows-within a r l e t i j u v = true-T (isBounded (entry a i j)) (every-at isBounded (a .m) 12 (i * 4 + j) nan (sym e ∙ t) (omega arith) l)
 
 -- both tests of the matrix
 pub is-bounded : (a : Mat4) (p q : Bool) → (p ≡ true → Affine a) → (q ≡ true → RowsWithin a) → (p && q) ≡ true → BoundedMatrix a
 is-bounded a p q h k t = record { affine = h (and-left p q t); rows = k (and-right p q t) }
 
 module _ (a : Mat4) (h : BoundedMatrix a) where
-  row : (i : ℕ) → i < 3 → (p : Vec3) → T (within (p .x)) → T (within (p .y)) → T (within (p .z)) → finite (along (rowOf a i) p) ≡ true
+  row : (i : ℕ) → i < 3 → (p : Vec3) → T (isBounded (p .x)) → T (isBounded (p .y)) → T (isBounded (p .z)) → finite (along (rowOf a i) p) ≡ true
   unfolding along
   row i u p x y z = is-true (finite (along (rowOf a i) p))
       (row-finite (entry a i 0) (entry a i 1) (entry a i 2) (entry a i 3) (p .x) (p .y) (p .z)
       (h .rows i 0 u (omega arith)) (h .rows i 1 u (omega arith)) (h .rows i 2 u (omega arith)) (h .rows i 3 u (omega arith)) x y z)
 
-  point : (p : Vec3) → T (within (p .x)) → T (within (p .y)) → T (within (p .z)) → vFinite (transformPoint a p) ≡ true
+  point : (p : Vec3) → T (isBounded (p .x)) → T (isBounded (p .y)) → T (isBounded (p .z)) → vFinite (transformPoint a p) ≡ true
   unfolding vFinite affinePoint
   point p x y z =
-      ap {B = Bool} vFinite (sym (affine-point a (h .affine) p (within-finite (p .x) x) (within-finite (p .y) y) (within-finite (p .z) z)))
+      ap {B = Bool} vFinite (sym (affine-point a (h .affine) p (bounded-finite (p .x) x) (bounded-finite (p .y) y) (bounded-finite (p .z) z)))
       ∙ and-both (finite (along (rowOf a 0) p) && finite (along (rowOf a 1) p)) (finite (along (rowOf a 2) p))
       (and-both (finite (along (rowOf a 0) p)) (finite (along (rowOf a 1) p)) (row 0 (omega arith) p x y z) (row 1 (omega arith) p x y z)) (row 2 (omega arith) p x y z)
 
-  pub keeps : (l : List Float) → every within l ≡ true → every vFinite (map (transformPoint a) (points l)) ≡ true
+  pub keeps : (l : List Float) → every isBounded l ≡ true → every vFinite (map (transformPoint a) (points l)) ≡ true
   unfolding every
   keeps [] e = refl
   keeps (x ∷ []) e = refl
   keeps (x ∷ y ∷ []) e = refl
   keeps (x ∷ y ∷ z ∷ l) e =
-      let f = and-right (within x) (within y && (within z && every within l)) e in
-      let g = and-right (within y) (within z && every within l) f in
+      let f = and-right (isBounded x) (isBounded y && (isBounded z && every isBounded l)) e in
+      let g = and-right (isBounded y) (isBounded z && every isBounded l) f in
       let p : Vec3 = record { x = x; y = y; z = z } in
       and-both (vFinite (transformPoint a p)) (every vFinite (map (transformPoint a) (points l)))
-      (point p (true-T (within x) (and-left (within x) (within y && (within z && every within l)) e)) (true-T (within y) (and-left (within y) (within z && every within l) f))
-      (true-T (within z) (and-left (within z) (every within l) g)))
-      (keeps l (and-right (within z) (every within l) g))
+      (point p (true-T (isBounded x) (and-left (isBounded x) (isBounded y && (isBounded z && every isBounded l)) e)) (true-T (isBounded y) (and-left (isBounded y) (isBounded z && every isBounded l) f))
+      (true-T (isBounded z) (and-left (isBounded z) (every isBounded l) g)))
+      (keeps l (and-right (isBounded z) (every isBounded l) g))
 
 -- what the passes over the vertices show
-pub tested-small : (vs : List Float) (n : ℕ) (r : Bool) → 3 * n ≤ length vs → r ≡ every within (take (3 * n) vs) → r ≡ true → Tested vs n true
+pub tested-small : (vs : List Float) (n : ℕ) (r : Bool) → 3 * n ≤ length vs → r ≡ every isBounded (take (3 * n) vs) → r ≡ true → Tested vs n true
 tested-small vs n r l e t = record {
   vertices = record { within = l; finite = every-finite (take (3 * n) vs) (sym e ∙ t) };
   bounded = λ u. sym e ∙ t;

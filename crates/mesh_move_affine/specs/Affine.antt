@@ -13,7 +13,7 @@ use Rattle.math_matrix.specs.declared.Mat4.{Mat4}
 use Rattle.math.specs.Vec.{one, new}
 use Rattle.math_matrix.specs.Mat.{entry, rowOf, along}
 use Rattle.slice.specs.Every.{every}
-use Rattle.slice_bounded.specs.Bounded.{within}
+use Rattle.slice_bounded.specs.Bounded.{isBounded}
 
 -- the last row is 0 0 0 1; either zero will do
 pub record Affine (a : Mat4) : Type 0 where
@@ -37,16 +37,16 @@ pub record Movable (vs : List Float) (n : ℕ) (a : Mat4) : Type 0 where
   pub vertices : FiniteVertices vs n
   pub affine : Affine a
 
--- the entries of the first three rows lie within the bounds
+-- the entries of the first three rows lie from -2^400 to 2^400
 abbrev pub RowsWithin : Mat4 → Type 0
-RowsWithin a = (i j : ℕ) → i < 3 → j < 4 → T (within (entry a i j))
+RowsWithin a = (i j : ℕ) → i < 3 → j < 4 → T (isBounded (entry a i j))
 
--- an affine matrix whose other rows lie within the bounds
+-- an affine matrix whose other rows lie from -2^400 to 2^400
 pub record BoundedMatrix (a : Mat4) : Type 0 where
   pub affine : Affine a
   pub rows : RowsWithin a
 
--- n finite vertices in the slice; where `small` is true, they lie within the bounds
+-- n finite vertices in the slice; where `small` is true, they lie from -2^400 to 2^400
 pub record Tested (vs : List Float) (n : ℕ) (small : Bool) : Type 0 where
   pub vertices : FiniteVertices vs n
-  pub bounded : small ≡ true → every within (take (3 * n) vs) ≡ true
+  pub bounded : small ≡ true → every isBounded (take (3 * n) vs) ≡ true

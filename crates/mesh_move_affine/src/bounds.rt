@@ -10,7 +10,7 @@ fn rows_within(a: Mat4) -> bool
     ensures { λ r. ⌜ (r ≡ true → RowsWithin a) ⌝ }
 {
     let m = a.m;
-    slice_bounded::all_within(&m, 12)
+    slice_bounded::all_bounded(&m, 12)
 }
 
 // Whether they do and the last row is 0 0 0 1.

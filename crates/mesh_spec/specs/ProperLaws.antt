@@ -1,5 +1,5 @@
 -- `append`, `flip` and `transform` keep a mesh without a triangle that names one vertex twice or a vertex that isn't there. Assumes nothing.
-use mathlib.Core.Path.{_≡_, refl, sym, ap, _∙_, subst}
+use mathlib.Core.Path.{_≡_, refl, sym}
 use mathlib.Core.Bool.{Bool, true, false, not, _&&_, cond}
 use mathlib.Core.List.{List, [], _∷_, _++_, map}
 use Prim.Native.Nat.{ℕ, _+_, _≤_, _<_}
@@ -8,6 +8,7 @@ use lib.ListN.{length, length-append, length-map}
 use lib.Dec.{T, eqb, ltb, ltb→lt, lt→ltb}
 use lib.Ieee.{binary64, lt, ofBits}
 use borrow.Author.Tests.{eq-eqb, ne-eqb, eqb-true, eqb-false}
+use lib.Ieee.Fits.{and-i, and-l, and-r}
 use Rattle.math_matrix.specs.declared.Mat4.{Mat4}
 use Rattle.math_matrix.specs.Mat.{transformPoint, determinant}
 use Rattle.mesh_balance_spec.specs.Soup.{Tri, mapTri}
@@ -17,35 +18,23 @@ use Rattle.mesh_spec.specs.Closed.{allOf, below, NoneTwice, AllThere}
 use Rattle.mesh_spec.specs.ClosedLaws.{eqb-shift}
 
 -- ---- tests of every triangle
-pub both : (a b : Bool) → T a → T b → T (a && b)
-both true b s t = t
-both false b s t = absurd s
-
-pub first : (a b : Bool) → T (a && b) → T a
-first true b t = tt
-first false b t = t
-
-pub second : (a b : Bool) → T (a && b) → T b
-second true b t = t
-second false b t = absurd t
-
 module _ (k : Tri ℕ → Bool) where
   all-append : (xs ys : List (Tri ℕ)) → T (allOf k xs) → T (allOf k ys) → T (allOf k (xs ++ ys))
   unfolding allOf
   all-append [] ys s t = t
-  all-append (x ∷ xs) ys s t = both (k x) (allOf k (xs ++ ys)) (first (k x) (allOf k xs) s) (all-append xs ys (second (k x) (allOf k xs) s) t)
+  all-append (x ∷ xs) ys s t = and-i (k x) (allOf k (xs ++ ys)) (and-l (k x) (allOf k xs) s) (all-append xs ys (and-r (k x) (allOf k xs) s) t)
 
   -- each triangle becomes another, and what was tested before shows the test of the other
   all-map : (j : Tri ℕ → Bool) (f : Tri ℕ → Tri ℕ) → ((t : Tri ℕ) → T (j t) → T (k (f t))) → (ts : List (Tri ℕ)) → T (allOf j ts) → T (allOf k (map f ts))
   unfolding allOf
   all-map j f h [] s = tt
-  all-map j f h (t ∷ ts) s = both (k (f t)) (allOf k (map f ts)) (h t (first (j t) (allOf j ts) s)) (all-map j f h ts (second (j t) (allOf j ts) s))
+  all-map j f h (t ∷ ts) s = and-i (k (f t)) (allOf k (map f ts)) (h t (and-l (j t) (allOf j ts) s)) (all-map j f h ts (and-r (j t) (allOf j ts) s))
 
 module _ (k : Tri ℕ → Bool) where
   all-weaken : (j : Tri ℕ → Bool) → ((t : Tri ℕ) → T (j t) → T (k t)) → (ts : List (Tri ℕ)) → T (allOf j ts) → T (allOf k ts)
   unfolding allOf
   all-weaken j h [] s = tt
-  all-weaken j h (t ∷ ts) s = both (k t) (allOf k ts) (h t (first (j t) (allOf j ts) s)) (all-weaken j h ts (second (j t) (allOf j ts) s))
+  all-weaken j h (t ∷ ts) s = and-i (k t) (allOf k ts) (h t (and-l (j t) (allOf j ts) s)) (all-weaken j h ts (and-r (j t) (allOf j ts) s))
 
 -- ---- one triangle
 distinct-up : (n : ℕ) (t : Tri ℕ) → T (distinct t) → T (distinct (mapTri (λ i. i + n) t))
@@ -53,16 +42,16 @@ distinct-up n t s = rw (eqb-shift n (t .0) (t .1), eqb-shift n (t .1) (t .2), eq
 
 module _ (n : ℕ) (t : Tri ℕ) where
   there : t .0 < n → t .1 < n → t .2 < n → T (below n t)
-  there h k l = both (ltb (t .0) n && ltb (t .1) n) (ltb (t .2) n) (both (ltb (t .0) n) (ltb (t .1) n) (lt→ltb (t .0) n h) (lt→ltb (t .1) n k)) (lt→ltb (t .2) n l)
+  there h k l = and-i (ltb (t .0) n && ltb (t .1) n) (ltb (t .2) n) (and-i (ltb (t .0) n) (ltb (t .1) n) (lt→ltb (t .0) n h) (lt→ltb (t .1) n k)) (lt→ltb (t .2) n l)
 
   at0 : T (below n t) → t .0 < n
-  at0 s = ltb→lt (t .0) n (first (ltb (t .0) n) (ltb (t .1) n) (first (ltb (t .0) n && ltb (t .1) n) (ltb (t .2) n) s))
+  at0 s = ltb→lt (t .0) n (and-l (ltb (t .0) n) (ltb (t .1) n) (and-l (ltb (t .0) n && ltb (t .1) n) (ltb (t .2) n) s))
 
   at1 : T (below n t) → t .1 < n
-  at1 s = ltb→lt (t .1) n (second (ltb (t .0) n) (ltb (t .1) n) (first (ltb (t .0) n && ltb (t .1) n) (ltb (t .2) n) s))
+  at1 s = ltb→lt (t .1) n (and-r (ltb (t .0) n) (ltb (t .1) n) (and-l (ltb (t .0) n && ltb (t .1) n) (ltb (t .2) n) s))
 
   at2 : T (below n t) → t .2 < n
-  at2 s = ltb→lt (t .2) n (second (ltb (t .0) n && ltb (t .1) n) (ltb (t .2) n) s)
+  at2 s = ltb→lt (t .2) n (and-r (ltb (t .0) n && ltb (t .1) n) (ltb (t .2) n) s)
 
 below-more : (n m : ℕ) → n ≤ m → (t : Tri ℕ) → T (below n t) → T (below m t)
 below-more n m h t s = there m t (omega (arith, at0 n t s)) (omega (arith, at1 n t s)) (omega (arith, at2 n t s))

@@ -10,6 +10,7 @@ use lib.ListN.{length, getD, length-append}
 use lib.Dec.{eqb}
 use lib.Ieee.{Float}
 use borrow.Author.Tests.{eq-eqb, ne-eqb}
+use Rattle.slice_law.specs.Bools.{and-assoc, false-unless}
 use Rattle.math.specs.declared.Vec3.{Vec3}
 use Rattle.mesh_balance_spec.specs.Soup.{Tri, mapTri}
 use Rattle.mesh_spec.specs.Slices.{flatV}
@@ -21,23 +22,19 @@ module _ (p d : Vec3) where
   at-step : (n m : ℕ) (b : Bool) → b ≡ false → n ≡ m → cond b 0 (suc n) ≡ suc m
   at-step n m b e h = rw (e, h)
 
-  no-true : (b : Bool) → (b ≡ true → ⊥) → b ≡ false
-  no-true true h = absurd (h refl)
-  no-true false h = refl
-
   -- a vertex that equals p, with none before it that does, is the first
   pub sight-at : (us : List Vec3) (m : ℕ) → m < length us → samePoint (getD us m d) p ≡ true → ((j : ℕ) → j < m → samePoint (getD us j d) p ≡ true → ⊥) → firstSight us p ≡ m
   unfolding firstSight
   sight-at [] m l s f = absurd (not-suc-le-zero l)
   sight-at (v ∷ us) zero l s f = rw s
   sight-at (v ∷ us) (suc m) l s f =
-      at-step (firstSight us p) m (samePoint v p) (no-true (samePoint v p) (f zero (omega arith))) (sight-at us m (le-of-suc-le-suc l) s (λ j k. f (suc j) (suc-le-suc k)))
+      at-step (firstSight us p) m (samePoint v p) (false-unless (samePoint v p) (f zero (omega arith))) (sight-at us m (le-of-suc-le-suc l) s (λ j k. f (suc j) (suc-le-suc k)))
 
   pub sight-none : (us : List Vec3) → ((m : ℕ) → m < length us → samePoint (getD us m d) p ≡ true → ⊥) → firstSight us p ≡ length us
   unfolding firstSight
   sight-none [] f = refl
   sight-none (v ∷ us) f =
-      at-step (firstSight us p) (length us) (samePoint v p) (no-true (samePoint v p) (f zero (omega arith))) (sight-none us (λ m k. f (suc m) (suc-le-suc k)))
+      at-step (firstSight us p) (length us) (samePoint v p) (false-unless (samePoint v p) (f zero (omega arith))) (sight-none us (λ m k. f (suc m) (suc-le-suc k)))
 
 -- p is a vertex already
 pub with-seen : (us : List Vec3) (p : Vec3) → firstSight us p < length us → withPoint us p ≡ us
@@ -119,18 +116,12 @@ unfolding weldSoup
 weldSoup-append S [] ys = refl
 weldSoup-append S (x ∷ xs) ys = weldSoup-append (weldTriangle S x) xs ys
 
-and-assoc : (a b c : Bool) → (a && (b && c)) ≡ ((a && b) && c)
-and-assoc true b c = refl
-and-assoc false true c = refl
-and-assoc false false true = refl
-and-assoc false false false = refl
-
 pub everyFinite-append : (xs ys : List (Tri Vec3)) → everyFinite (xs ++ ys) ≡ (everyFinite xs && everyFinite ys)
 unfolding everyFinite
 everyFinite-append [] ys = refl
 everyFinite-append (t ∷ xs) ys =
     let f : Bool = vFinite (t .0) && vFinite (t .1) && vFinite (t .2) in
-    ap (λ (b : Bool). f && b) (everyFinite-append xs ys) ∙ and-assoc f (everyFinite xs) (everyFinite ys)
+    ap (λ (b : Bool). f && b) (everyFinite-append xs ys) ∙ sym (and-assoc f (everyFinite xs) (everyFinite ys))
 
 -- ---- slices
 pub flatV-append : (us vs : List Vec3) → flatV (us ++ vs) ≡ flatV us ++ flatV vs

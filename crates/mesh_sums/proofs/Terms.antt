@@ -16,7 +16,7 @@ use Rattle.mesh_spec.specs.SliceLaws.{length-tris}
 use Rattle.mesh_spec.specs.Measures.{sumOf, volumeTerm, areaTerm, triangleSoup, signedVolume}
 use Rattle.mesh_spec.specs.Slices.{vertexAt}
 use Rattle.mesh_triples.specs.Triples.{tripleAt, cornersAt, cornersOf, CornersWithin, AllWithin}
-use Rattle.slice.proofs.Next.{Next, next-map, drop-end}
+use Rattle.slice_law.specs.Next.{Next, next-map, drop-end}
 use Rattle.mesh_triples.proofs.NextTriples.{next-counted}
 
 -- ---- one triangle

@@ -18,7 +18,8 @@ use Rattle.refusal.specs.declared.Refusal.{Refusal}
 use Rattle.refusal.specs.declared.Refusal.the-variants.{Accepted, NotFinite, AngleTooLarge, BadList, PointNotFinite, BadMesh}
 use Rattle.slice.specs.Every.{every}
 use Rattle.mesh_check.specs.State.{State, meshOf, badMesh, notFinite}
-use Rattle.mesh_check.proofs.Tests.{not-both, transform-vertices}
+use Rattle.slice_law.specs.Bools.{not-and}
+use Rattle.mesh_check.proofs.Tests.{transform-vertices}
 use Rattle.mesh_transform_check.specs.Transform.{transformed, moveRefusal, transformRefusal}
 
 -- ---- 8, 4 and 1
@@ -26,7 +27,7 @@ use Rattle.mesh_transform_check.specs.Transform.{transformed, moveRefusa
 pub finite-tests : (s : State) (used : List TransformOp) {x y b : Bool} → x ≡ every finite (take (3 * s .mesh .vertices) (s .vertices)) → y ≡ opsFinite used
     → not (x && y) ≡ b → (notFinite s || not (opsFinite used)) ≡ b
 unfolding notFinite
-finite-tests s used {x} {y} e f h = sym (ap₂ (λ (p q : Bool). not p || not q) e f) ∙ not-both x y ∙ h
+finite-tests s used {x} {y} e f h = sym (ap₂ (λ (p q : Bool). not p || not q) e f) ∙ not-and x y ∙ h
 
 module _ (ops : List TransformOp) (count : ℕ) (degrees : Bool) (s : State) where
   abbrev used : List TransformOp

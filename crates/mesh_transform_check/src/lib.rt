@@ -22,7 +22,7 @@ fn move_refusal(
     requires { ⌜ Tested (now vertices) n small ⌝ }
     ensures { λ r. ⌜ r ≡ moveRefusal ops «op_count» degrees (points (take (3 * n) (now (vertices .entry)))) ⌝ }
 {
-    if !transform_angles::ops_angles_within(ops, op_count, degrees) {
+    if !transform_check::ops_angles_within(ops, op_count, degrees) {
         return Refusal::AngleTooLarge;
     }
     if op_count == 0 {
@@ -48,12 +48,12 @@ pub fn transform_refusal(
     if mesh_check::bad_mesh(mesh, vertices, triangles) {
         return Refusal::BadMesh;
     }
-    if !transform_angles::op_count_within(op_count) {
+    if !transform_check::op_count_within(op_count) {
         return Refusal::BadList;
     }
-    let small = slice_bounded::all_within(vertices, 3 * n);
+    let small = slice_bounded::all_bounded(vertices, 3 * n);
     if !(slice_bounded::all_finite(vertices, 3 * n, small)
-        & transform_finite::ops_finite(ops, op_count)) {
+        & transform_check::ops_finite(ops, op_count)) {
         return Refusal::NotFinite;
     }
     move_refusal(vertices, n, small, ops, op_count, degrees)

@@ -5,6 +5,7 @@ use Prim.Native.Nat.{ℕ, zero, suc, _+_, _*_, _≤_, _<_}
 use native.Mathlib.Omega.{arith}
 use lib.ListN.{length, take, drop, getD, set, length-append, length-map, length-drop}
 use lib.Seq.{sets-eq, take-at, drop-at, drop-drop, getD-drop, getD-append-add, drop-append-add, take-add, length-take-le, take-append-le, set-getD}
+use Rattle.slice_law.specs.Lists.{map-append}
 use Rattle.mesh_balance_spec.specs.Soup.{Tri}
 use Rattle.mesh_balance_spec.specs.Buffer.{flat, tris, flat-append, length-flat}
 use Rattle.mesh_spec.specs.SliceLaws.{length-tris}
@@ -39,11 +40,6 @@ module _ {A : Type 0} where
   tris-more l i d h =
       ap {B = List (Tri A)} tris (take-more l i d h)
       ∙ tris-append i (take (3 * i) l) (getD l (3 * i) d ∷ getD l (3 * i + 1) d ∷ getD l (3 * i + 2) d ∷ []) (length-take-le (3 * i) l (omega arith))
-
-module _ {A B : Type 0} (f : A → B) where
-  map-append : (xs ys : List A) → map f (xs ++ ys) ≡ map f xs ++ map f ys
-  map-append [] ys = refl
-  map-append (x ∷ xs) ys = ap {B = List B} (λ r. f x ∷ r) (map-append xs ys)
 
 module _ {A : Type 0} (g : Tri A → Tri A) (l : List A) where
   -- what is replaced so far

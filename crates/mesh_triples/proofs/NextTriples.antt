@@ -6,7 +6,7 @@ use native.Mathlib.Omega.{arith}
 use lib.ListN.{length, take, drop, getD}
 use lib.Seq.{getD-take, length-take-le}
 use lib.Ieee.{Float, nan}
-use Rattle.slice.proofs.Next.{Next, next-at, next-map}
+use Rattle.slice_law.specs.Next.{Next, next-at, next-map}
 use Rattle.mesh_balance_spec.specs.Soup.{Tri}
 use Rattle.mesh_balance_spec.specs.Buffer.{tris}
 use Rattle.mesh_spec.specs.Slices.{points, vecOf, vertexAt}

@@ -8,6 +8,7 @@ use native.Mathlib.Omega.{arith}
 use lib.ListN.{length, take, drop, replicate, length-drop, length-append, take-append-drop}
 use lib.Seq.{length-take-le, take-at, drop-at}
 use lib.Ieee.{Float, binary64, lt, ofBits}
+use Rattle.slice_law.specs.Lists.{drop-further}
 use Rattle.slice.specs.Cleared.{clearedFrom}
 use Rattle.outline.specs.Corners.{point, padded}
 use Rattle.outline.specs.Clean.{cleanPolygon}
@@ -15,7 +16,7 @@ use Rattle.outline.specs.Area.{signedArea}
 use Rattle.outline.specs.Ccw.{swapped, reversed, ccwPolygon, prepared}
 use Rattle.outline.specs.Slices.{WroteCorner, Copied}
 use Rattle.outline.specs.declared.Point.{Point}
-use Rattle.outline.proofs.Laws.{drop-further, drop-pair}
+use Rattle.outline.proofs.Laws.{drop-pair}
 
 abbrev zeroes : ℕ → List Float
 zeroes n = replicate n (ofBits binary64 0)

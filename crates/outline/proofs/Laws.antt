@@ -17,11 +17,6 @@ use Rattle.outline.specs.Slices.{WroteCorner, Grew}
 use Rattle.outline.specs.declared.Point.{Point}
 
 module _ {A : Type 0} where
-  pub drop-further : (n m : ℕ) (a b : List A) → n ≤ m → drop n a ≡ drop n b → drop m a ≡ drop m b
-  drop-further n m a b h e =
-      let s : n + (m - n) ≡ m = omega arith in
-      ap (λ (j : ℕ). drop j a) (sym s) ∙ sym (drop-drop (m - n) n a) ∙ ap (drop (m - n)) e ∙ drop-drop (m - n) n b ∙ ap (λ (j : ℕ). drop j b) s
-
   -- two floats are written
   module _ (m : ℕ) (o : List A) (x y : A) (h : 2 * m + 2 ≤ length o) where
     pub two-front : take (2 * (m + 1)) (set (set o (2 * m) x) (2 * m + 1) y) ≡ take (2 * m) o ++ (x ∷ y ∷ [])

@@ -18,7 +18,7 @@ use Rattle.outline_triangulate.specs.Slices.{CutAs}
 use Rattle.outline_clip.specs.Clip.{ClipOutcome, clipRefused, clipAccepted, clipOutline, outcomeOf}
 use Rattle.outline_triangulate.specs.declared.Cut.{Cut}
 use Rattle.outline_clip.specs.declared.Clipped.{Clipped}
-use Rattle.outline.proofs.Laws.{drop-further}
+use Rattle.slice_law.specs.Lists.{drop-further}
 
 -- ---- copies
 

@@ -9,8 +9,8 @@ use lib.ListN.{length, getD, take, drop, length-append, take-append-drop}
 use lib.Seq.{length-take-le}
 use lib.Ieee.{Float, lt}
 use borrow.Author.Tests.{eq-eqb, ne-eqb, lt-ltb, le-ltb}
+use Rattle.slice_law.specs.Lists.{drop-further}
 use Rattle.outline.specs.Corners.{point}
-use Rattle.outline.proofs.Laws.{drop-further}
 use Rattle.outline_ears.specs.Ears.{cross, tolerance, ip, inx, earAt, isEar, isFlat, firstEar, firstFlat}
 use Rattle.outline_ears.specs.Inside.{Inside}
 use Rattle.outline_ears.specs.declared.Ear.{Ear}

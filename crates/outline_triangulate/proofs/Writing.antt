@@ -9,7 +9,7 @@ use native.Mathlib.Omega.{arith}
 use lib.ListN.{length, getD, take, drop, set, length-append, length-drop, length-set, drop-of-length-le, List·getD-append}
 use lib.Seq.{drop-cons, take-suc, take-suc-set, drop-set-lt, getD-drop, getD-take, length-take-le, take-take, drop-drop, take-add, take-at, drop-at, take-append-add, getD-append-add}
 use lib.Ieee.{Float}
-use Rattle.outline.proofs.Laws.{drop-further}
+use Rattle.slice_law.specs.Lists.{drop-further}
 use Rattle.outline_ears.specs.Inside.{Inside}
 use Rattle.outline_ears.proofs.Laws.{idx-length, idx-at}
 use Rattle.outline_triangulate.specs.Triangulate.{without, fans, fan, counting}

@@ -45,7 +45,7 @@ vecAt b at = record { x = floatAt b at; y = floatAt b (at + 8); z = floatAt b (a
 
 -- four floats from a place on
 abbrev pub rowAt : List ℕ → ℕ → Row
-rowAt b at = record { a = floatAt b at; b = floatAt b (at + 8); c = floatAt b (at + 16); d = floatAt b (at + 24) }
+rowAt b at = record { x = floatAt b at; y = floatAt b (at + 8); z = floatAt b (at + 16); w = floatAt b (at + 24) }
 
 -- a matrix of sixteen floats from a place on, row by row
 abbrev pub matrixAt : List ℕ → ℕ → TransformOp

@@ -25,10 +25,10 @@ fn row_at(b: &[u8], at: usize) -> Row
     ensures { λ r. ⌜ r ≡ rowAt (now (b .entry)) at ⌝ }
 {
     Row {
-        a: slice_bytes::float_at(b, at),
-        b: slice_bytes::float_at(b, at + 8),
-        c: slice_bytes::float_at(b, at + 16),
-        d: slice_bytes::float_at(b, at + 24),
+        x: slice_bytes::float_at(b, at),
+        y: slice_bytes::float_at(b, at + 8),
+        z: slice_bytes::float_at(b, at + 16),
+        w: slice_bytes::float_at(b, at + 24),
     }
 }
 

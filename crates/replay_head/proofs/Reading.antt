@@ -8,7 +8,8 @@ use lib.ListN.{length, set, replicate, length-append, length-replicate}
 use lib.Seq.{set-at, append-snoc}
 use Rattle.transform.specs.declared.TransformOp.{TransformOp}
 use Rattle.replay_format.specs.Layout.{opAt}
-use Rattle.replay_head.specs.Kept.{firstOps, noOp, opsRead, opsOf}
+use Rattle.transform.specs.Ops.{noOp}
+use Rattle.replay_head.specs.Kept.{firstOps, opsRead, opsOf}
 
 first-length : (n : ℕ) (b : List ℕ) → length (firstOps n b) ≡ n
 unfolding firstOps

@@ -15,7 +15,7 @@ pub fn fill_words(out: &mut [u32])
 pub fn fill_floats(out: &mut [f64])
     ensures { λ _. ⌜ now (out .exit) ≡ filled floatA5 (now (out .entry)) ⌝ }
 {
-    let x = slice_bytes::from_bits(0xA5A5A5A5A5A5A5A5);
+    let x = ieee::from_bits(0xA5A5A5A5A5A5A5A5);
     let mut i = 0;
     while i < out.len() {
         out[i] = x;

@@ -8,3 +8,4 @@ pub mod Units
 pub mod Means
 pub mod Nearest
 pub mod Rounded
+pub mod Exact

@@ -4,16 +4,16 @@ use mathlib.Core.Bool.{Bool, true, false, not, cond}
 use Prim.Native.Nat.{ℕ, zero, suc, _+_, _-_, _*_, _/_, _%_, _^_, _≤_, _<_}
 use native.Mathlib.Nat.{le-trans, le-of-eq, eq-or-lt-of-le, lt-irrefl, lt-of-lt-of-le, lt-of-le-of-lt, mul-le-mul-right, mul-pos, mul-assoc, add-comm, one-mul, pow-succ'}
 use native.Mathlib.Omega.{arith}
-use lib.Dec.{T, leb, eqb, leb→le, nleb→lt, nltb→le}
+use lib.Dec.{T, leb, ltb, eqb, leb→le, ltb→lt, nleb→lt, nltb→le}
 use lib.Pow.{pow-pos, pow-mono, pow-add, shl-lt}
 use lib.Count.{trailingZeros, under}
-use lib.Ieee.{Float, nan, inf, fin, binary64, minus, odd, units, ofFields, ofBits, nanBits, isNan, ne, div}
+use lib.Ieee.{nan, inf, fin, binary64, minus, odd, units, ofFields, ofBits, nanBits}
 use lib.Ieee.Exact.{odd-sign}
 use borrow.Author.Tests.{lt-ltb, le-ltb, lt-leb, le-leb, ne-eqb}
 use mathlib.Core.Logic.{_⊎_, inl, inr}
 use lib.Ieee.Bits.{nanBits-above}
-use lib.Ieee.Compare.{nan-differs}
 use Rattle.root.specs.Sqrt.{isqrt, rootUnits, sqrt, nearRoot}
+use Rattle.root.specs.Packed.{significand, packedValue}
 use Rattle.root.proofs.Roots.{isqrt-is, root-ge, root-lt}
 use Rattle.root.proofs.Scaled.{pow-lt-back, rootUnits-scaled, sqrt-value, sqrt-negative}
 
@@ -124,20 +124,27 @@ doubled m (suc j) h =
 pub large : (m j : ℕ) → 0 < m → 1074 ≤ j → 2 ^ 1074 ≤ m * 2 ^ j
 large m j h l = le-trans (pow-mono {i = 1074} l) (le-trans (le-of-eq (sym (one-mul (2 ^ j)))) (mul-le-mul-right (2 ^ j) h))
 
--- ---- a value as `root_bits` takes it, in units of the square of the format's smallest value
+-- ---- a value as `root_bits` takes it
 
-abbrev pub heldBy : ℕ → ℕ
-heldBy p = (p % 2 ^ 53 + (p % 2 ^ 53 - 2 ^ 52) + 2 ^ 52) * 2 ^ (p / 2 ^ 53 * 2 + 52)
+-- both cases in one sum, for `omega`
+pub significand-is : (c : ℕ) → significand c ≡ c + (c - 2 ^ 52) + 2 ^ 52
+unfolding significand
+significand-is c = go (ltb c (2 ^ 52)) (ltb→lt c (2 ^ 52)) (nltb→le c (2 ^ 52))
+  where
+    go : (t : Bool) → (T t → c < 2 ^ 52) → (T (not t) → 2 ^ 52 ≤ c) → cond t (2 ^ 52 + c) (2 * c) ≡ c + (c - 2 ^ 52) + 2 ^ 52
+    go true y n = let k : c < 2 ^ 52 = y tt in omega arith
+    go false y n = let k : 2 ^ 52 ≤ c = n tt in omega arith
 
-pub held-by : (p e c m j : ℕ) → p ≡ e * 2 ^ 53 + c → c < 2 ^ 53 → m ≡ c + (c - 2 ^ 52) + 2 ^ 52 → j ≡ e * 2 + 52 → m * 2 ^ j ≡ heldBy p
+pub held-by : (p e c m j : ℕ) → p ≡ e * 2 ^ 53 + c → c < 2 ^ 53 → m ≡ c + (c - 2 ^ 52) + 2 ^ 52 → j ≡ e * 2 + 52 → m * 2 ^ j ≡ packedValue p
+unfolding packedValue
 held-by p e c m j h l f g =
     let k : c ≡ p % 2 ^ 53 = omega arith in
     let i : e ≡ p / 2 ^ 53 = omega arith in
-    ap (λ (x : ℕ). x * 2 ^ j) (f ∙ ap (λ (x : ℕ). x + (x - 2 ^ 52) + 2 ^ 52) k)
-    ∙ ap (λ (x : ℕ). (p % 2 ^ 53 + (p % 2 ^ 53 - 2 ^ 52) + 2 ^ 52) * 2 ^ x) (g ∙ ap (λ (x : ℕ). x * 2 + 52) i)
+    ap (λ (x : ℕ). x * 2 ^ j) (f ∙ sym (significand-is c) ∙ ap significand k)
+    ∙ ap (λ (x : ℕ). significand (p % 2 ^ 53) * 2 ^ x) (g ∙ ap (λ (x : ℕ). x * 2 + 52) i)
 
 -- the normal value with the pattern t + 2 ^ 52
-start : (t : ℕ) → t < 2046 * 2 ^ 52 → sqrt binary64 (ofBits binary64 (t + 2 ^ 52)) ≡ rootUnits binary64 (heldBy (t + 511 * 2 ^ 53))
+start : (t : ℕ) → t < 2046 * 2 ^ 52 → sqrt binary64 (ofBits binary64 (t + 2 ^ 52)) ≡ rootUnits binary64 (packedValue (t + 511 * 2 ^ 53))
 start t h = begins ∙ ap (rootUnits binary64) (go (leb (2 ^ 52) c) (leb→le (2 ^ 52) c) (nleb→lt (2 ^ 52) c))
   where
     c : ℕ
@@ -152,7 +159,7 @@ start t h = begins ∙ ap (rootUnits binary64) (go (leb (2 ^ 52) c) (leb→le (2
     begins : sqrt binary64 (ofBits binary64 (t + 2 ^ 52)) ≡ rootUnits binary64 (m * 2 ^ (1073 + x))
     begins = start-normal (t + 2 ^ 52) x refl (omega arith) (omega arith)
 
-    go : (u : Bool) → (T u → 2 ^ 52 ≤ c) → (T (not u) → c < 2 ^ 52) → m * 2 ^ (1073 + x) ≡ heldBy (t + 511 * 2 ^ 53)
+    go : (u : Bool) → (T u → 2 ^ 52 ≤ c) → (T (not u) → c < 2 ^ 52) → m * 2 ^ (1073 + x) ≡ packedValue (t + 511 * 2 ^ 53)
     go true y n =
         let k : 2 ^ 52 ≤ t % 2 ^ 53 = y tt in
         let i : x ≡ 2 * (t / 2 ^ 53) + 2 = omega arith in
@@ -164,22 +171,18 @@ start t h = begins ∙ ap (rootUnits binary64) (go (leb (2 ^ 52) c) (leb→le (2
 
 -- p holds the value with the pattern b, within the range that `root_bits` asks for
 abbrev pub Held : ℕ → ℕ → Type 0
-Held b p = (sqrt binary64 (ofBits binary64 b) ≡ rootUnits binary64 (heldBy p)) × (485 * 2 ^ 53 ≤ p) × (p < 1534 * 2 ^ 53)
+Held b p = (sqrt binary64 (ofBits binary64 b) ≡ rootUnits binary64 (packedValue p)) × (485 * 2 ^ 53 ≤ p) × (p < 1534 * 2 ^ 53)
 
 pub normal-held : (b t p : ℕ) → (t + 2 ^ 52) % 2 ^ 64 ≡ b → t < 2046 * 2 ^ 52 → p ≡ t + 511 * 2 ^ 53 → Held b p
 normal-held b t p e h f =
     let k : b ≡ t + 2 ^ 52 = omega arith in
-    (ap (λ (y : ℕ). sqrt binary64 (ofBits binary64 y)) k ∙ start t h ∙ ap (λ (y : ℕ). rootUnits binary64 (heldBy y)) (sym f), omega arith, omega arith)
+    (ap (λ (y : ℕ). sqrt binary64 (ofBits binary64 y)) k ∙ start t h ∙ ap (λ (y : ℕ). rootUnits binary64 (packedValue y)) (sym f), omega arith, omega arith)
 
 -- ---- the patterns of the zeros, the infinities and the values below zero
 
 pub sqrt-nan : sqrt binary64 nan ≡ nan
 unfolding sqrt
 sqrt-nan = refl
-
-pub nan-made : div binary64 (ofBits binary64 0) (ofBits binary64 0) ≡ nan
-unfolding div ofBits
-nan-made = refl
 
 sqrt-plus-zero : sqrt binary64 (ofBits binary64 0) ≡ ofBits binary64 0
 unfolding sqrt ofBits
@@ -233,10 +236,3 @@ sqrt-below-zero b h g z n =
     let l : b % 2 ^ 63 ≤ 2047 * 2 ^ 52 = not-nan-le b n in
     ap (sqrt binary64) (ofBits-is b ∙ same (le-leb (2 ^ 63) b (omega arith)) refl refl)
     ∙ below-zero (b % 2 ^ 63 / 2 ^ 52) (b % 2 ^ 52) (omega arith) (λ e. omega arith)
-
--- a value that equals itself is no NaN
-pub no-nan : (x : Float) → ne x x ≡ false → T (not (isNan x))
-unfolding isNan
-no-nan nan h = absurd (subst T (sym nan-differs ∙ h) tt)
-no-nan (inf s) h = tt
-no-nan (fin s m e) h = tt

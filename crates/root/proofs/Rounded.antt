@@ -63,10 +63,10 @@ module _ (f : Format) (x : Float) (h : T (fits f x)) (x-plus : T (notBelowZero x
       x-pos (has-size x x-plus .1) (has-size (sqrt f x) r-plus .1) (has-size y y-plus .1)
       h (has-size x x-plus .0) (has-size (sqrt f x) r-plus .0) k (has-size y y-plus .0)
 
-  nearest-root : Nearest f x (sqrt f x)
+  pub nearest-root : Nearest f x (sqrt f x)
   nearest-root = record {
     held = sqrt-finite f x (sizeOf x .num) (sizeOf x .den) h (has-size x x-plus .0) x-pos .0;
-    finite = r-plus;
+    finite-not-below-zero = r-plus;
     than-above = λ y k z. nearer y k z .0;
     than-below = λ y k z. nearer y k z .1;
   }
@@ -108,7 +108,7 @@ module _ (f : Format) (x r s : Float) (n : Nearest f x r) (m : Nearest f x s) wh
   not-above : Below (sizeOf r) (sizeOf s) → ⊥
   not-above k =
       clash (sizeOf x .num) (sizeOf x .den) (sizeOf r .num) (sizeOf r .den) (sizeOf s .num) (sizeOf s .den)
-      (n .than-above s (m .held) (m .finite) k) (m .than-below r (n .held) (n .finite) k)
+      (n .than-above s (m .held) (m .finite-not-below-zero) k) (m .than-below r (n .held) (n .finite-not-below-zero) k)
 
 same-number : (r s : Float) → T (notBelowZero r) → T (notBelowZero s) → (Below (sizeOf r) (sizeOf s) → ⊥) → (Below (sizeOf s) (sizeOf r) → ⊥) → T (eq r s)
 unfolding eq
@@ -128,4 +128,4 @@ same-number (fin false m e) (fin false n d) h k a b = and-i (eqb p q) true (eq�
 
 -- Two numbers that are both nearest are equal.
 pub nearest-unique : (f : Format) (x r s : Float) → Nearest f x r → Nearest f x s → T (eq r s)
-nearest-unique f x r s n m = same-number r s (n .finite) (m .finite) (not-above f x r s n m) (not-above f x s r m n)
+nearest-unique f x r s n m = same-number r s (n .finite-not-below-zero) (m .finite-not-below-zero) (not-above f x r s n m) (not-above f x s r m n)

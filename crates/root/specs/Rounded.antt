@@ -1,11 +1,11 @@
 -- What makes r the correctly rounded square root of x (IEEE 754, roundTiesToEven), said by comparing whole-number squares. Definitions only.
--- The theorem `sqrt-rounded` of proofs/Rounded.antt shows it of `sqrt`.
 use Prim.Native.Nat.{ℕ, _+_, _*_, _<_}
 use mathlib.Core.Path.{_≡_}
 use mathlib.Core.Bool.{Bool, true, false}
-use lib.IntN.{pos}
 use lib.Dec.{T}
-use lib.Ieee.{Float, nan, inf, fin, Format, up, down, fits, lt, eq}
+use lib.Ieee.{Float, nan, inf, fin, Format, binary64, up, down, fits, lt, eq}
+use Rattle.ieee.specs.Number.{plusZero}
+use Rattle.root.specs.Sqrt.{sqrt}
 
 -- A number that is not below zero, as num / den.
 pub record Fraction : Type 0 where
@@ -36,8 +36,9 @@ notBelowZero (fin true m e) = false
 notBelowZero nan = false
 notBelowZero (inf s) = false
 
-abbrev pub plusZero : Float
-plusZero = fin false 0 (pos 0)
+-- y times y is x exactly, for x and y that are finite and not below zero.
+abbrev pub SquareOf : Float → Float → Type 0
+SquareOf y x = sizeOf y .num * sizeOf y .num * sizeOf x .den ≡ sizeOf x .num * (sizeOf y .den * sizeOf y .den)
 
 -- r is the value of the format f that is nearest to the square root of x, which is finite and above zero.
 -- A value y above r is farther from the root exactly where the root is below the mean of r and y, and so where x is below the square of that mean. A value y below
@@ -45,7 +46,7 @@ plusZero = fin false 0 (pos 0)
 -- A value below zero is farther than zero is, and r is not.
 pub record Nearest (f : Format) (x r : Float) : Type 0 where
   pub held : T (fits f r)
-  pub finite : T (notBelowZero r)
+  pub finite-not-below-zero : T (notBelowZero r)
   pub than-above : (y : Float) → T (fits f y) → T (notBelowZero y) → Below (sizeOf r) (sizeOf y) → Below (sizeOf x) (squareOfMean (sizeOf r) (sizeOf y))
   pub than-below : (y : Float) → T (fits f y) → T (notBelowZero y) → Below (sizeOf y) (sizeOf r) → Below (squareOfMean (sizeOf r) (sizeOf y)) (sizeOf x)
 
@@ -56,3 +57,10 @@ pub record CorrectlyRounded (f : Format) (x r : Float) : Type 0 where
   pub infinite : x ≡ inf false → r ≡ inf false
   pub negative : T (lt x plusZero) → r ≡ nan
   pub positive : T (lt plusZero x) → T (lt x (inf false)) → Nearest f x r
+
+-- What the function `sqrt` ensures of its result r: the root as Sqrt.antt works it out, which is IEEE 754's; and so where a y of the format that is
+-- finite and not below zero is the root of x, r is y.
+pub record Root (x r : Float) : Type 0 where
+  pub value : r ≡ sqrt binary64 x
+  pub rounded : CorrectlyRounded binary64 x r
+  pub exact : (y : Float) → T (notBelowZero x) → T (fits binary64 y) → T (notBelowZero y) → SquareOf y x → r ≡ y

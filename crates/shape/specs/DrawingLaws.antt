@@ -1,7 +1,7 @@
 -- What is known of a drawing that refusals 3, 4, 1 and 2 let pass. Laws of the definitions in Drawing. Assumes nothing.
 use Prim.Native.Nat.{ℕ, _/_, _%_, _<_, _≤_}
 use mathlib.Core.Path.{_≡_, refl, _∙_}
-use mathlib.Core.Bool.{Bool, true, false, not, _&&_, _||_, cond}
+use mathlib.Core.Bool.{Bool, true, false, not, _&&_, cond}
 use mathlib.Core.List.{List}
 use native.Mathlib.Omega.{arith}
 use lib.ListN.{length, getD, take}
@@ -9,11 +9,13 @@ use lib.Dec.{ltb, eqb}
 use lib.Ieee.{Float, nan}
 use lib.Ieee.Scale.{finite}
 use borrow.Author.Tests.{ltb-false, eqb-true, not-false}
+use Rattle.slice_law.specs.Bools.{or-left, or-right, and-left, and-right}
 use Rattle.refusal.specs.declared.Refusal.the-variants.{Accepted, NotFinite, AngleTooLarge, TooManySegments, BadList}
 use Rattle.transform.specs.declared.TransformOp.{TransformOp}
+use Rattle.transform.specs.Ops.{mostOps}
 use Rattle.transform.specs.Checks.{opsFinite, opsAnglesWithin}
 use Rattle.slice.specs.Every.{every}
-use Rattle.slice.proofs.Next.{every-at, every-all}
+use Rattle.slice.specs.EveryLaws.{every-at, every-all}
 use Rattle.shape.specs.declared.Shape.{Shape}
 use Rattle.shape.specs.declared.Items.the-variants.{Corners, Points, Boxes}
 use Rattle.shape.specs.declared.CoordSystem.{CoordSystem}
@@ -28,7 +30,7 @@ pub record AcceptedDrawing (shape : Shape) (list : List Float) (own : OwnSystem)
   pub segments-most : options .segments ≤ 1024
   pub rings-most : options .«sphere_rings» ≤ 1024
   pub list-whole : badList (itemsOf shape) (length list) ≡ false
-  pub count-most : count ≤ 16
+  pub count-most : count ≤ mostOps
   pub shape-finite : shapeFinite shape ≡ true
   pub list-finite : every finite (listOf (itemsOf shape) list) ≡ true
   pub ops-finite : opsFinite (take count ops) ≡ true
@@ -36,25 +38,7 @@ pub record AcceptedDrawing (shape : Shape) (list : List Float) (own : OwnSystem)
   pub list-within : listWithin (cylindrical (shapeCs shape own default)) (itemsOf shape) list ≡ true
   pub ops-within : opsAnglesWithin degrees (take count ops) ≡ true
 
--- ---- tests that did not refuse
-
-or-left : (a b : Bool) → (a || b) ≡ false → a ≡ false
-or-left true b e = e
-or-left false b e = refl
-
-or-right : (a b : Bool) → (a || b) ≡ false → b ≡ false
-or-right true b e = let no : true ≡ false = e in cc
-or-right false b e = e
-
-and-left : (a b : Bool) → (a && b) ≡ true → a ≡ true
-and-left true b e = refl
-and-left false b e = e
-
-and-right : (a b : Bool) → (a && b) ≡ true → b ≡ true
-and-right true b e = e
-and-right false b e = let no : false ≡ true = e in cc
-
--- the refusals passed over one after the other
+-- ---- tests that did not refuse: the refusals passed over one after the other
 record Passed (a b c d : Bool) : Type 0 where
   three : a ≡ false
   four : b ≡ false
@@ -83,8 +67,8 @@ accepted shape list own default options ops count degrees e =
     record {
       segments-most = ltb-false 1024 (options .segments) (or-left _ (ltb 1024 (options .«sphere_rings»)) (p .three));
       rings-most = ltb-false 1024 (options .«sphere_rings») (or-right (ltb 1024 (options .segments)) _ (p .three));
-      list-whole = or-left (badList k (length list)) (ltb 16 count) (p .four);
-      count-most = ltb-false 16 count (or-right (badList k (length list)) (ltb 16 count) (p .four));
+      list-whole = or-left (badList k (length list)) (ltb mostOps count) (p .four);
+      count-most = ltb-false mostOps count (or-right (badList k (length list)) (ltb mostOps count) (p .four));
       shape-finite = and-left (shapeFinite shape) (every finite (listOf k list)) numbers-front;
       list-finite = and-right (shapeFinite shape) (every finite (listOf k list)) numbers-front;
       ops-finite = and-right (shapeFinite shape && every finite (listOf k list)) (opsFinite (take count ops)) numbers;

@@ -2,8 +2,7 @@
 ghost use mathlib.Core.Path.{_≡_};
 ghost use Prim.Native.Nat.{_≤_, max};
 ghost use Rattle.shape.specs.Arc.{countedSpan, arcShare, arcSegments, isFull};
-
-const TAU: f64 = 6.283185307179586;
+use ieee::TAU;
 
 // usize::max.
 pub fn larger(a: usize, b: usize) -> usize

@@ -69,6 +69,6 @@ pub fn numbers_bad(shape: Shape, list: &[f64], ops: [TransformOp; 16], op_count:
 {
     let good = shape_finite(shape)
         & list_finite(shape::items_of(shape), list)
-        & transform_finite::ops_finite(ops, op_count);
+        & transform_check::ops_finite(ops, op_count);
     !good
 }

@@ -1,16 +1,16 @@
--- The whole places of a slice, and a test of every element. Definitions only.
+-- The places of a slice that count, and a test of every element. Definitions only.
 use mathlib.Core.Bool.{Bool, true, _&&_}
 use mathlib.Core.List.{List, [], _∷_}
 use Prim.Native.Nat.{ℕ, _/_, min}
 use lib.ListN.{length}
 
--- whole places in a length, three elements each, of which no more than 4,294,967,295 count
-unfoldable pub wholePlaces : ℕ → ℕ
-wholePlaces n = min (n / 3) 4294967295
+-- the places of three elements in a length that count: no more than 4,294,967,295, which is what a 32-bit number can count. Refusal 6 asks of all of them, n / 3
+unfoldable pub countedPlaces : ℕ → ℕ
+countedPlaces n = min (n / 3) 4294967295
 
--- whole places of a slice
+-- the same of a slice
 abbrev pub placesOf : {A : Type 0} → List A → ℕ
-placesOf l = wholePlaces (length l)
+placesOf l = countedPlaces (length l)
 
 -- every element passes a test
 unfoldable pub every : {A : Type 0} → (A → Bool) → List A → Bool

@@ -7,7 +7,7 @@ ghost use lib.Dec.{ltb};
 ghost use lib.Ieee.{ofBits, binary64};
 ghost use lib.Ieee.Scale.{finite};
 ghost use Rattle.slice.specs.Cleared.{clearedFrom};
-ghost use Rattle.slice.specs.Every.{every, wholePlaces};
+ghost use Rattle.slice.specs.Every.{every, countedPlaces};
 
 // Zeros from place `from` on, in a slice of vertex or triangle numbers.
 pub fn clear_numbers(s: &mut [u32], from: usize)
@@ -38,9 +38,9 @@ pub fn wide(x: u32) -> usize
     x as usize
 }
 
-// The whole places of a slice, three elements each, of which a 32-bit number can count no more than 4,294,967,295.
-pub fn whole_places(len: usize) -> usize
-    ensures { λ r. ⌜ r ≡ wholePlaces len ⌝ }
+// The places of a slice that count, three elements each: a 32-bit number can count no more than 4,294,967,295.
+pub fn counted_places(len: usize) -> usize
+    ensures { λ r. ⌜ r ≡ countedPlaces len ⌝ }
 {
     let whole = len / 3;
     if whole < 4294967295 {

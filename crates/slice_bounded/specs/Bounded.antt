@@ -13,11 +13,12 @@ unfoldable pub withinPower : ℕ → Float → Bool
 unfolding le
 withinPower k x = le (fin true 1 (pos k)) x && le x (fin false 1 (pos k))
 
-unfoldable pub within : Float → Bool
+-- a float from -2^400 to 2^400
+unfoldable pub isBounded : Float → Bool
 unfolding withinPower
-within x = withinPower 400 x
+isBounded x = withinPower 400 x
 
--- the slice has count floats; where `small` is true, they lie within the bounds
+-- the slice has count floats; where `small` is true, they lie from -2^400 to 2^400
 pub record Small (l : List Float) (count : ℕ) (small : Bool) : Type 0 where
   pub there : count ≤ length l
-  pub bounded : small ≡ true → every within (take count l) ≡ true
+  pub bounded : small ≡ true → every isBounded (take count l) ≡ true

@@ -1,6 +1,6 @@
 -- A float whose size is at most a power of two: products and sums of such floats are bounded by higher powers, and finite while the format holds those. Assumes nothing.
 use mathlib.Core.Path.{_≡_, refl, sym, ap, _∙_, subst}
-use mathlib.Core.Logic.{_⊎_, inl, inr}
+use mathlib.Core.Logic.{inl, inr}
 use Prim.Native.Nat.{ℕ, zero, suc, _+_, _-_, _*_, _^_, _≤_, _<_}
 use native.Mathlib.Nat.{le-trans, le-of-eq, le-of-lt, zero-lt-suc, mul-one, one-mul, mul-comm, mul-assoc, mul-left-comm, mul-right-comm}
 use native.Mathlib.Nat.{mul-pos, mul-le-mul, mul-le-mul-right, le-of-mul-le-mul-right, add-le-add, two-pow-succ}
@@ -16,8 +16,9 @@ use lib.Ieee.Exact.{HasValue, round-exact}
 use lib.Ieee.Order.{kept, drop, round-mono}
 use lib.Ieee.Scale.{finite}
 use lib.Ieee.Bits.{is-true}
+use Rattle.ieee.specs.Same.{or-split}
 use Rattle.slice.specs.Every.{every}
-use Rattle.slice_bounded.specs.Bounded.{withinPower, within}
+use Rattle.slice_bounded.specs.Bounded.{withinPower, isBounded}
 
 -- |x| ≤ 2 ^ k
 abbrev pub AtMost : ℕ → Float → Type 0
@@ -36,10 +37,6 @@ at-most-more j k (inf s) p h = h
 at-most-more j k (fin s m e) p h = le-trans h (mul-le-mul-right (down e) (pow-mono {i = j} {j = k} p))
 
 -- ---- the test
-or-split : (a b : Bool) → T (a || b) → T a ⊎ T b
-or-split true b t = inl tt
-or-split false b t = inr t
-
 less-or-same : (a b : ℕ) → T (ltb a b || (eqb a b && true)) → a ≤ b
 less-or-same a b t = elim (or-split (ltb a b) (eqb a b && true) t) [ inl u ↦ le-of-lt (ltb→lt a b u) | inr u ↦ le-of-eq (eqb→eq a b (and-l (eqb a b) true u)) ]
 
@@ -162,22 +159,22 @@ module _ (f : Format) (k : ℕ) (h : suc (suc (suc (k + k))) ≤ emax f) (a b c 
       add-at-most f (suc (suc j)) (add f (add f u v) w) d t (at-most-more k (suc (suc j)) d (omega arith) pd) h
 
 -- ---- in binary64
-pub within-finite : (x : Float) → T (within x) → T (finite x)
-unfolding within
-within-finite x h = at-most-finite 400 x (within-power 400 x h)
+pub bounded-finite : (x : Float) → T (isBounded x) → T (finite x)
+unfolding isBounded
+bounded-finite x h = at-most-finite 400 x (within-power 400 x h)
 
-pub every-finite : (l : List Float) → every within l ≡ true → every finite l ≡ true
+pub every-finite : (l : List Float) → every isBounded l ≡ true → every finite l ≡ true
 unfolding every
 every-finite [] e = refl
-every-finite (x ∷ l) e = go (within x) (every within l) e (within-finite x) (every-finite l)
+every-finite (x ∷ l) e = go (isBounded x) (every isBounded l) e (bounded-finite x) (every-finite l)
   where
     go : (a b : Bool) → (a && b) ≡ true → (T a → T (finite x)) → (b ≡ true → every finite l ≡ true) → (finite x && every finite l) ≡ true
     go true b e h k = rw (is-true (finite x) (h tt), k e)
     go false b e h k = absurd (false≢true e)
 
-pub row-finite : (a b c d x y z : Float) → T (within a) → T (within b) → T (within c) → T (within d) → T (within x) → T (within y) → T (within z)
+pub row-finite : (a b c d x y z : Float) → T (isBounded a) → T (isBounded b) → T (isBounded c) → T (isBounded d) → T (isBounded x) → T (isBounded y) → T (isBounded z)
     → T (finite (add binary64 (add binary64 (add binary64 (mul binary64 a x) (mul binary64 b y)) (mul binary64 c z)) d))
-unfolding within
+unfolding isBounded
 row-finite a b c d x y z ha hb hc hd hx hy hz =
     at-most-finite 803 (add binary64 (add binary64 (add binary64 (mul binary64 a x) (mul binary64 b y)) (mul binary64 c z)) d)
     (row-at-most binary64 400 (lit≤ tt) a b c d x y z (within-power 400 a ha) (within-power 400 b hb) (within-power 400 c hc) (within-power 400 d hd)

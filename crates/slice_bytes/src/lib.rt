@@ -1,4 +1,4 @@
-// Little-endian numbers of 4 and 8 bytes in lent slices, and floats by their bits.
+// Little-endian numbers of 4 and 8 bytes in lent slices, and floats at places of such slices.
 mod bytes;
 mod floats;
 
@@ -6,7 +6,5 @@ pub use bytes::long_at;
 pub use bytes::put_long;
 pub use bytes::put_word;
 pub use bytes::word_at;
-pub use floats::bits_of;
 pub use floats::float_at;
-pub use floats::from_bits;
 pub use floats::put_float;

@@ -1,27 +1,16 @@
 -- The laws of `PartsRun`, for callers that weld parts one after the other. Assumes nothing.
 use mathlib.Core.Path.{_≡_, refl, sym, ap, _∙_, subst}
-use mathlib.Core.Bool.{Bool, true, false, _&&_}
+use mathlib.Core.Bool.{Bool, _&&_}
 use mathlib.Core.List.{List, [], _∷_, _++_}
 use Prim.Native.Nat.{ℕ}
 use lib.Ieee.{Float}
+use Rattle.slice_law.specs.Bools.{and-true, and-left, and-assoc}
 use Rattle.mesh_spec.specs.Mesh.{Mesh, noMesh, append, weldSoup, fromSoup, everyFinite, appendParts}
 use Rattle.weld.specs.declared.Welder.{Welder}
 use Rattle.weld.specs.Rep.{Held, held, Ready, Rep, Runs, Parted}
 use Rattle.solid_spec.specs.Grid.{Soup}
 use Rattle.tessellate_spec.specs.Solid.{partsFinite}
 use Rattle.solid_parts.specs.Parts.{PartsRun}
-
-and-true : (a : Bool) → (a && true) ≡ a
-and-true true = refl
-and-true false = refl
-
-and-left : (a b : Bool) → (a && b) ≡ true → a ≡ true
-and-left true b h = refl
-and-left false b h = h
-
-and-assoc : (a b c : Bool) → (a && b && c) ≡ (a && (b && c))
-and-assoc true b c = refl
-and-assoc false b c = refl
 
 pub partsFinite-append : (xs ys : List Soup) → partsFinite (xs ++ ys) ≡ (partsFinite xs && partsFinite ys)
 unfolding partsFinite

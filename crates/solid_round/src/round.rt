@@ -5,13 +5,12 @@ ghost use Rattle.weld.specs.Rep.{held, Ready, Runs};
 ghost use Rattle.solid_spec.specs.Grid.{grid};
 ghost use Rattle.solid_spec.specs.Sphere as Sphere;
 ghost use Rattle.solid_spec.specs.Cylinder as Cylinder;
+use ieee::TAU;
 use math::Vec3;
 use solid_spec::Chart;
 use solid_spec::Surface;
 use surface::Turns;
 use weld::Welder;
-
-const TAU: f64 = 6.283185307179586;
 
 // The grid of a sphere of at most 64 rings and segments. Its tables are small, so that clearing them takes little time.
 fn weld_small_sphere(

@@ -1,12 +1,13 @@
 -- Cylinders, and cylindrical shells of unequal radii, are balanced after + 0.0 where every point is finite.
-use mathlib.Core.Path.{_≡_, refl}
+use mathlib.Core.Path.{_≡_}
 use mathlib.Core.List.{map}
-use mathlib.Core.Bool.{Bool, true, false, _||_, true≢false}
+use mathlib.Core.Bool.{Bool, true, false, _||_}
 use Prim.Native.Nat.{ℕ, _≤_, max}
 use native.Mathlib.Omega.{arith}
 use lib.Dec.{T}
 use lib.Ieee.{Float, binary64, eq, lt, le, isNan, fits}
 use lib.Ieee.Fits.{sub-fits}
+use Rattle.slice_law.specs.Bools.{neither}
 use Rattle.ieee.specs.Number.{plusZero, maximum, tau}
 use Rattle.math.specs.declared.Vec3.{Vec3}
 use Rattle.math.specs.Vec.{new, vSub, vDiv, norm}
@@ -24,10 +25,6 @@ use Rattle.solid_spec.proofs.Maps.{around-respects, around-shows}
 zero-fits : T (fits binary64 plusZero)
 unfolding fits
 zero-fits = tt
-
-none-or : (s t : Bool) → (s || t) ≡ false → (s ≡ false) × (t ≡ false)
-none-or true t h = absurd (true≢false h)
-none-or false t h = (refl, h)
 
 module _ (a d : Vec3) (len r0 r1 : Float) (segments : ℕ) (few : segments ≤ 1024) (fit : T (fits binary64 r0)) where
   tube-closes : eq len plusZero ≡ false → eq r1 (maximum r0 plusZero) ≡ false → Sound (tube a d len r0 r1 segments) → Closes (tube a d len r0 r1 segments)
@@ -47,12 +44,12 @@ module _ (a b : Vec3) (r0 r1 : Float) (segments : ℕ) (few : segments ≤ 1024)
       let v = vSub b a in
       let len = norm v in
       unless (tube a (vDiv v len) len r0 r1 segments) (eq len plusZero || le r1 plusZero)
-      (λ e. tube-closes a (vDiv v len) len r0 r1 segments few fit (none-or (eq len plusZero) (le r1 plusZero) e .0) (n (none-or (eq len plusZero) (le r1 plusZero) e .1)))
+      (λ e. tube-closes a (vDiv v len) len r0 r1 segments few fit (neither (eq len plusZero) (le r1 plusZero) e .0) (n (neither (eq len plusZero) (le r1 plusZero) e .1)))
 
 -- a radius above 0 is not the inner radius 0
 apart : (r : Float) → le r plusZero ≡ false → eq r (maximum plusZero plusZero) ≡ false
 unfolding maximum isNan lt le
-apart r e = none-or (lt r plusZero) (eq r plusZero) e .1
+apart r e = neither (lt r plusZero) (eq r plusZero) e .1
 
 pub solid-closes : (a b : Vec3) (r : Float) (segments : ℕ) → segments ≤ 1024 → Sound (cylinder a b plusZero r segments) → Closes (cylinder a b plusZero r segments)
 solid-closes a b r segments few = cylinder-closes a b plusZero r segments few zero-fits (apart r)

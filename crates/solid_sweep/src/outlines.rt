@@ -7,11 +7,10 @@ ghost use Rattle.solid_spec.specs.Outline as Outline;
 ghost use Rattle.solid_spec.specs.Polygons as Polygons;
 ghost use Rattle.solid_sweep.specs.Caps.{turnSpan, TurnWithin, turnOf};
 use crate::ends;
+use ieee::TAU;
 use solid_spec::Surface;
 use surface::Turns;
 use weld::Welder;
-
-const TAU: f64 = 6.283185307179586;
 
 // extruded_polygon from the prepared corners on.
 fn weld_extruded_from(

@@ -1,9 +1,8 @@
 // The bounds of a cylindrical box: box_shape of src/tessellate.rs.
 ghost use mathlib.Core.Path.{_≡_};
 ghost use Rattle.solid_spec.specs.Boxes as Boxes;
+use ieee::TAU;
 use math::Vec3;
-
-const TAU: f64 = 6.283185307179586;
 
 // The high bound of a cylindrical box.
 pub fn turned_to(full: bool, lo: Vec3, hi: Vec3) -> Vec3

@@ -4,11 +4,10 @@ ghost use Prim.Native.Nat.{_≤_, _<_};
 ghost use Rattle.solid_spec.specs.Outline as Outline;
 ghost use Rattle.solid_spec.specs.Surface as Surface;
 ghost use Rattle.surface_outline.specs.Pieces as Pieces;
+use ieee::TAU;
 use math::Vec3;
 use outline::Point;
 use trig::SinCos;
-
-const TAU: f64 = 6.283185307179586;
 
 // The corner c of an outline in the plane with the normal n, at the height h.
 pub fn plane_point(n: usize, c: Point, h: f64) -> Vec3

@@ -2,12 +2,10 @@
 ghost use mathlib.Core.Path.{_≡_};
 ghost use Prim.Native.Nat.{_≤_, _<_};
 ghost use Rattle.solid_spec.specs.Sphere as Sphere;
+use ieee::PI;
+use ieee::TAU;
 use math::Vec3;
 use trig::SinCos;
-
-const PI: f64 = 3.141592653589793;
-
-const TAU: f64 = 6.283185307179586;
 
 // The sine and cosine of row i of nt, exact at both poles.
 pub fn latitude(nt: usize, i: usize) -> SinCos

@@ -5,6 +5,7 @@ use mathlib.Core.List.{List, [], _∷_, _++_}
 use Prim.Native.Nat.{ℕ, zero, suc, _*_, _≤_, _<_}
 use native.Mathlib.Omega.{arith}
 use native.Mathlib.Nat.{not-suc-le-zero}
+use lib.Ieee.Fits.{and-l, and-r}
 use lib.ListN.{length, take, drop, getD, length-append, take-append-drop, List·getD-append}
 use lib.Dec.{T, ltb, ltb→lt}
 use lib.Ieee.{Float}
@@ -14,7 +15,7 @@ use Rattle.mesh_spec.specs.Mesh.{Mesh, noMesh, append, fromSoup, appendParts, f
 use Rattle.mesh_spec.specs.Slices.{flatV}
 use Rattle.mesh_spec.specs.SliceLaws.{length-flatV}
 use Rattle.mesh_spec.specs.Closed.{allOf, below, AllThere, Proper}
-use Rattle.mesh_spec.specs.ProperLaws.{first, second, append-all-there}
+use Rattle.mesh_spec.specs.ProperLaws.{append-all-there}
 use Rattle.mesh_spec.specs.Welded.{fromSoup-proper}
 use Rattle.solid_spec.specs.Grid.{Soup}
 use Rattle.mesh_check.specs.declared.TriMesh.{TriMesh}
@@ -46,10 +47,10 @@ mesh-is m s t e = ap {B = Mesh} meshOf e ∙ mesh-stored m t
 flat-below : (n : ℕ) (l : List (Tri ℕ)) → T (allOf (below n) l) → (i : ℕ) → i < 3 * length l → getD (flat l) i 0 < n
 unfolding allOf
 flat-below n [] h i k = absurd (not-suc-le-zero k)
-flat-below n (t ∷ l) h zero k = ltb→lt (t .0) n (first (ltb (t .0) n) (ltb (t .1) n) (first (ltb (t .0) n && ltb (t .1) n) (ltb (t .2) n) (first (below n t) (allOf (below n) l) h)))
-flat-below n (t ∷ l) h (suc zero) k = ltb→lt (t .1) n (second (ltb (t .0) n) (ltb (t .1) n) (first (ltb (t .0) n && ltb (t .1) n) (ltb (t .2) n) (first (below n t) (allOf (below n) l) h)))
-flat-below n (t ∷ l) h (suc (suc zero)) k = ltb→lt (t .2) n (second (ltb (t .0) n && ltb (t .1) n) (ltb (t .2) n) (first (below n t) (allOf (below n) l) h))
-flat-below n (t ∷ l) h (suc (suc (suc i))) k = flat-below n l (second (below n t) (allOf (below n) l) h) i (omega arith)
+flat-below n (t ∷ l) h zero k = ltb→lt (t .0) n (and-l (ltb (t .0) n) (ltb (t .1) n) (and-l (ltb (t .0) n && ltb (t .1) n) (ltb (t .2) n) (and-l (below n t) (allOf (below n) l) h)))
+flat-below n (t ∷ l) h (suc zero) k = ltb→lt (t .1) n (and-r (ltb (t .0) n) (ltb (t .1) n) (and-l (ltb (t .0) n && ltb (t .1) n) (ltb (t .2) n) (and-l (below n t) (allOf (below n) l) h)))
+flat-below n (t ∷ l) h (suc (suc zero)) k = ltb→lt (t .2) n (and-r (ltb (t .0) n && ltb (t .1) n) (ltb (t .2) n) (and-l (below n t) (allOf (below n) l) h))
+flat-below n (t ∷ l) h (suc (suc (suc i))) k = flat-below n l (and-r (below n t) (allOf (below n) l) h) i (omega arith)
 
 stored-sound : (m : Mesh) (t : State) → AllThere m → Sound (stored m t)
 unfolding stored

@@ -21,7 +21,7 @@ fn move_mesh(counts: TriMesh, vertices: &mut [f64], triangles: &mut [u32], a: Ma
     let n = counts.vertices;
     let k = counts.triangles;
     mesh_move::move_all(vertices, n, a);
-    if math_matrix_map::determinant(a) < 0.0 {
+    if math_matrix_ops::determinant(a) < 0.0 {
         mesh_write::turn_all(triangles, k);
         return;
     }

@@ -29,7 +29,7 @@ use Rattle.shape.specs.declared.OwnSystem.the-variants.{Inherited, Own}
 use Rattle.shape.specs.declared.TessellationOptions.{TessellationOptions}
 use Rattle.shape.specs.Drawing.{effectiveCs, shapeCs, cylindrical, tooManySegments, itemsOf, badItems, badList, listOf}
 use Rattle.shape.specs.Drawing.{shapeFinite, pointWithin, pointsWithin, shapeWithin, listWithin, numbersBad, anglesBad, drawingRefusal}
-use Rattle.slice.specs.Every.{wholePlaces, every}
+use Rattle.slice.specs.Every.{countedPlaces, every}
 use Rattle.tessellate_spec.specs.Solid.{partsOf, partsFinite, solidMesh}
 use Rattle.tessellate_spec.specs.Outcome.{Job, jobParts, weldedMesh, finalMesh, shortWork, jobRefusal, badSoup, tooFewPlaces}
 use Rattle.refusal.specs.Accepted.{isAccepted, orElse}
@@ -63,7 +63,7 @@ box = boxJob origin corner Cartesian 32 [] 0
 
 -- tessellateOf, with what it takes to compute it
 unfoldable computed : Job → ℕ → ℕ → ℕ → Outcome
-unfolding tessellateOf refusalOf orElse shortWork jobRefusal badSoup tooFewPlaces badVertex acceptedAs refusedAs wholePlaces every partsFinite everyFinite
+unfolding tessellateOf refusalOf orElse shortWork jobRefusal badSoup tooFewPlaces badVertex acceptedAs refusedAs countedPlaces every partsFinite everyFinite
     drawingRefusal tooManySegments badItems badList numbersBad anglesBad itemsOf listOf shapeFinite vFinite pointWithin pointsWithin within1000 shapeWithin listWithin
     opsFinite opFinite opsAnglesWithin opAngleWithin finalMesh weldedMesh jobParts partsOf solidMesh fromParts appendParts append fromSoup weldSoup weldTriangle withPoint
     firstSight samePoint plusZeroV shapeCs effectiveCs cylindrical boxShape paramBox faces face grid facePoint withAxis coord axis vMin vMax

@@ -32,7 +32,7 @@ use Rattle.shape.specs.declared.CoordSystem.{CoordSystem}
 use Rattle.shape.specs.declared.TessellationOptions.{TessellationOptions}
 use Rattle.shape.specs.Drawing.{cylindrical, shapeCs, drawingRefusal}
 use Rattle.mesh_check.specs.declared.TriMesh.{TriMesh}
-use Rattle.slice.specs.Every.{wholePlaces, every}
+use Rattle.slice.specs.Every.{countedPlaces, every}
 use Rattle.tessellate_spec.specs.Solid.{partsOf, partsFinite, solidMesh}
 
 -- the arguments of `tessellate`, but for the lent slices
@@ -76,7 +76,7 @@ badSoup j = not (partsFinite (jobParts j))
 
 -- 7: more vertices or triangles than whole places, or more than 4,294,967,295 of either
 unfoldable pub tooFewPlaces : Mesh → ℕ → ℕ → Bool
-tooFewPlaces m nv nt = ltb (wholePlaces nv) (length (m .vertices)) || ltb (wholePlaces nt) (length (m .triangles))
+tooFewPlaces m nv nt = ltb (countedPlaces nv) (length (m .vertices)) || ltb (countedPlaces nt) (length (m .triangles))
 
 -- 5: a coordinate of a transformed vertex is not finite
 unfoldable pub badVertex : Job → Bool

@@ -15,7 +15,7 @@ use Rattle.refusal.specs.declared.Refusal.the-variants.{Accepted, PointNotFinit
 use Rattle.refusal.specs.Number.{numberOf}
 use Rattle.mesh_spec.specs.Mesh.{Mesh, fromParts}
 use Rattle.mesh_spec.specs.Edits.{transform}
-use Rattle.slice.specs.Every.{wholePlaces, every}
+use Rattle.slice.specs.Every.{countedPlaces, every}
 use Rattle.tessellate_spec.specs.Solid.{partsFinite}
 use Rattle.refusal.specs.Accepted.{isAccepted, orElse}
 use Rattle.tessellate_spec.specs.Outcome.{Job, jobParts, weldedMesh, finalMesh, shortWork, jobRefusal, badSoup, tooFewPlaces, badVertex, refusalOf}
@@ -93,8 +93,8 @@ module _ (j : Job) where
   places-same nv nt =
       let b = isRotPoly (j .shape) in
       let m = fromParts (jobParts j) in
-      (λ i. ltb (wholePlaces nv) (length (welded-is i .vertices)) || ltb (wholePlaces nt) (length (welded-is i .triangles)))
-      ∙ (λ i. ltb (wholePlaces nv) (turned-vertices b m i) || ltb (wholePlaces nt) (turned-triangles b m i))
+      (λ i. ltb (countedPlaces nv) (length (welded-is i .vertices)) || ltb (countedPlaces nt) (length (welded-is i .triangles)))
+      ∙ (λ i. ltb (countedPlaces nv) (turned-vertices b m i) || ltb (countedPlaces nt) (turned-triangles b m i))
 
   pub soup-test : (f b : Bool) → f ≡ partsFinite (jobParts j) → not f ≡ b → badSoup j ≡ b
   unfolding badSoup

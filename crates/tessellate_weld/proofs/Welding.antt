@@ -1,16 +1,17 @@
 -- What is known when all parts of a shape are welded. Assumes nothing.
-use mathlib.Core.Path.{_≡_, refl, sym, ap, _∙_, subst}
+use mathlib.Core.Path.{_≡_, refl, ap, _∙_, subst}
 use mathlib.Core.Bool.{Bool, true, false, _&&_, _||_}
-use mathlib.Core.List.{List, [], _∷_}
+use mathlib.Core.List.{List}
 use mathlib.Core.Logic.{inl, inr}
-use Prim.Native.Nat.{ℕ, zero, suc, _*_, _/_, _≤_, _<_}
+use Prim.Native.Nat.{ℕ, zero, suc, _*_, _/_, _≤_}
 use lib.ListN.{length, getD, replicate}
 use lib.Dec.{ltb}
 use lib.Ieee.{Float}
 use native.Mathlib.Omega.{arith}
 use borrow.Author.Tests.{lt-ltb, le-ltb, ltb-false}
+use Rattle.slice_law.specs.Bools.{or-true}
 use Rattle.slice.specs.Cleared.{clearedFrom}
-use Rattle.slice.proofs.Clearing.{cleared-all}
+use Rattle.slice.specs.ClearedLaws.{cleared-all}
 use Rattle.mesh_spec.specs.Mesh.{Mesh, noMesh, append, appendParts, fromParts}
 use Rattle.mesh_spec.specs.WeldLaws.{append-none}
 use Rattle.solid_spec.specs.Grid.{Soup}
@@ -25,8 +26,8 @@ use Rattle.solid_parts.specs.Parts.{PartsRun}
 use Rattle.weld.specs.declared.Welder.{Welder}
 use Rattle.weld.specs.Rep.{Held, held, Ready, Holds, Over, Rep, Begun}
 use Rattle.weld.specs.Runs.{Fits, holds-fits}
-use Rattle.slice.specs.Every.{wholePlaces}
-use Rattle.mesh_check.specs.State.{state, stored}
+use Rattle.slice.specs.Every.{countedPlaces}
+use Rattle.mesh_check.specs.State.{state}
 use Rattle.tessellate_spec.specs.Solid.{partsFinite}
 use Rattle.tessellate_spec.specs.Outcome.{tooFewPlaces, shortWork}
 use Rattle.tessellate_weld.specs.Steps.{countsOf, Drawable, Welded}
@@ -46,21 +47,17 @@ unfolding shortWork
 work-enough nv nw e = ltb-false nw (2 * (nv / 3)) e
 
 -- ---- the places
-or-true : (a : Bool) → (a || true) ≡ true
-or-true true = refl
-or-true false = refl
-
 module _ (m : Mesh) (k : Held) where
   fitting : Fits m k → tooFewPlaces m (length (k .vertices)) (length (k .triangles)) ≡ false
-  unfolding tooFewPlaces wholePlaces
-  fitting f = λ j. le-ltb (wholePlaces (length (k .vertices))) (length (m .vertices)) (f .0) j || le-ltb (wholePlaces (length (k .triangles))) (length (m .triangles)) (f .1) j
+  unfolding tooFewPlaces countedPlaces
+  fitting f = λ j. le-ltb (countedPlaces (length (k .vertices))) (length (m .vertices)) (f .0) j || le-ltb (countedPlaces (length (k .triangles))) (length (m .triangles)) (f .1) j
 
   overfull : Over m k → tooFewPlaces m (length (k .vertices)) (length (k .triangles)) ≡ true
-  unfolding tooFewPlaces wholePlaces
-  overfull (inl w) = λ j. lt-ltb (wholePlaces (length (k .vertices))) (length (m .vertices)) w j || ltb (wholePlaces (length (k .triangles))) (length (m .triangles))
+  unfolding tooFewPlaces countedPlaces
+  overfull (inl w) = λ j. lt-ltb (countedPlaces (length (k .vertices))) (length (m .vertices)) w j || ltb (countedPlaces (length (k .triangles))) (length (m .triangles))
   overfull (inr w) =
-      (λ j. ltb (wholePlaces (length (k .vertices))) (length (m .vertices)) || lt-ltb (wholePlaces (length (k .triangles))) (length (m .triangles)) w j)
-      ∙ or-true (ltb (wholePlaces (length (k .vertices))) (length (m .vertices)))
+      (λ j. ltb (countedPlaces (length (k .vertices))) (length (m .vertices)) || lt-ltb (countedPlaces (length (k .triangles))) (length (m .triangles)) w j)
+      ∙ or-true (ltb (countedPlaces (length (k .vertices))) (length (m .vertices)))
 
 -- all parts were welded, from an empty mesh
 module _ (parts : List Soup) (k : Held) (ready : Ready k) (rep : k .st .finite ≡ true → Rep (appendParts noMesh parts) noMesh k) where

@@ -1,18 +1,10 @@
--- Degrees and radians: docs/SCOPE.md, "Degrees and radians", and `ang` of `TransformOp::matrix` in src/transform.rs.
+-- The angle of an operation: docs/SCOPE.md, "Degrees and radians", and `ang` of `TransformOp::matrix` in src/transform.rs.
 use mathlib.Core.Bool.{Bool, cond}
 use lib.IntN.{pos}
-use lib.Ieee.{Float, binary64, mul, le, ofBits, ofInt}
+use lib.Ieee.{Float, binary64, le, ofInt}
 use Rattle.ieee.specs.MinMax.{absolute}
-use Rattle.transform.specs.declared.Degrees.{Degrees}
-use Rattle.transform.specs.declared.Radians.{Radians}
-
--- the float PI / 180, by its bits
-unfoldable pub perDegree : Float
-perDegree = ofBits binary64 0x3F91DF46A2529D39
-
--- `f64::to_radians`
-unfoldable pub toRadians : Degrees → Radians
-toRadians d = record { 0 = mul binary64 (d .0) perDegree }
+use Rattle.trig.specs.declared.Radians.{Radians}
+use Rattle.trig.specs.Angle.{toRadians}
 
 -- `ang` of `TransformOp::matrix`: an operation's angle, given in degrees or in radians
 unfoldable pub angleRadians : Bool → Float → Radians

@@ -10,14 +10,15 @@ use Rattle.math.specs.Vec.{vFinite}
 use Rattle.transform.specs.declared.TransformOp.{TransformOp}
 use Rattle.transform.specs.declared.TransformOp.the-variants.{Translate, RotateOrigin, RotateX, RotateY, RotateZ, Scale, Scale3, Matrix}
 use Rattle.transform.specs.Angle.{angleRadians, within1000}
+use Rattle.transform.specs.Ops.{mostOps}
 
 -- refusal 4: whether there are at most 16 operations
 unfoldable pub opCountWithin : ℕ → Bool
-opCountWithin count = leb count 16
+opCountWithin count = leb count mostOps
 
 -- whether the four numbers of a row are finite
 unfoldable pub rowFinite : Row → Bool
-rowFinite r = finite (r .a) && finite (r .b) && finite (r .c) && finite (r .d)
+rowFinite r = finite (r .x) && finite (r .y) && finite (r .z) && finite (r .w)
 
 -- refusal 1: whether every number of an operation is finite
 unfoldable pub opFinite : TransformOp → Bool

@@ -2,4 +2,5 @@
 pub mod Angle
 pub mod Ops
 pub mod Checks
+pub mod OpsLaws
 pub mod Examples

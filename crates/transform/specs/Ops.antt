@@ -1,7 +1,9 @@
 -- The matrix of one operation and of a list of them: `TransformOp::matrix` and `Transform::rebuild` of src/transform.rs.
+use Prim.Native.Nat.{ℕ}
 use mathlib.Core.Bool.{Bool}
 use mathlib.Core.List.{List, [], _∷_}
-use lib.Ieee.{Float}
+use lib.ListN.{replicate}
+use lib.Ieee.{Float, binary64, ofBits}
 use Rattle.math.specs.declared.Vec3.{Vec3}
 use Rattle.math_matrix.specs.declared.Mat4.{Mat4}
 use Rattle.math.specs.Vec.{new, unit}
@@ -10,17 +12,29 @@ use Rattle.transform.specs.declared.TransformOp.{TransformOp}
 use Rattle.transform.specs.declared.TransformOp.the-variants.{Translate, RotateOrigin, RotateX, RotateY, RotateZ, Scale, Scale3, Matrix}
 use Rattle.transform.specs.Angle.{angleRadians}
 
--- a rotation by the angle of an operation
-unfoldable pub turned : Bool → Vec3 → Float → Mat4
-turned degrees axis a = rotation axis (angleRadians degrees a .0)
+-- docs/SCOPE.md, refusal 4: an array of operations has 16 places, of which a count says how many count
+abbrev pub mostOps : ℕ
+mostOps = 16
+
+-- the operation at places that do not count: Scale(1.0)
+abbrev pub noOp : TransformOp
+noOp = Scale (ofBits binary64 4607182418800017408)
+
+-- no operations
+abbrev pub noOps : List TransformOp
+noOps = replicate mostOps noOp
+
+-- the matrix of a rotation by the angle of an operation
+unfoldable pub rotationBy : Bool → Vec3 → Float → Mat4
+rotationBy degrees axis a = rotation axis (angleRadians degrees a)
 
 -- `TransformOp::matrix`
 unfoldable pub opMatrix : Bool → TransformOp → Mat4
 opMatrix degrees (Translate v) = translation v
-opMatrix degrees (RotateOrigin v a) = turned degrees v a
-opMatrix degrees (RotateX a) = turned degrees (unit 0) a
-opMatrix degrees (RotateY a) = turned degrees (unit 1) a
-opMatrix degrees (RotateZ a) = turned degrees (unit 2) a
+opMatrix degrees (RotateOrigin v a) = rotationBy degrees v a
+opMatrix degrees (RotateX a) = rotationBy degrees (unit 0) a
+opMatrix degrees (RotateY a) = rotationBy degrees (unit 1) a
+opMatrix degrees (RotateZ a) = rotationBy degrees (unit 2) a
 opMatrix degrees (Scale s) = scaling (new s s s)
 opMatrix degrees (Scale3 v) = scaling v
 opMatrix degrees (Matrix p q r s) = fromRows p q r s

@@ -4,15 +4,12 @@ ghost use Prim.Native.Nat.{min};
 ghost use lib.ListN.{take};
 ghost use Rattle.transform.specs.Angle as Angle;
 ghost use Rattle.transform.specs.Ops as Ops;
+ghost use Rattle.transform.specs.Ops.{mostOps};
 use math::Vec3;
 use math_matrix::Mat4;
 use math_matrix::Row;
-
-// An angle in degrees. It becomes radians by to_radians and in no other way.
-pub struct Degrees(pub f64);
-
-// An angle in radians.
-pub struct Radians(pub f64);
+use trig::Degrees;
+use trig::Radians;
 
 // The angle of a rotation is in degrees or in radians, as the mark that goes with the operations says.
 pub enum TransformOp {
@@ -26,21 +23,12 @@ pub enum TransformOp {
     Matrix(Row, Row, Row, Row),
 }
 
-// PI / 180.
-const RADIANS_PER_DEGREE: f64 = 0.017453292519943295;
-
-pub fn to_radians(d: Degrees) -> Radians
-    ensures { λ r. ⌜ r ≡ Angle.toRadians d ⌝ }
-{
-    Radians(d.0 * RADIANS_PER_DEGREE)
-}
-
 // The angle a of an operation, in degrees where the mark says so and in radians otherwise.
 pub fn angle_radians(a: f64, degrees: bool) -> Radians
     ensures { λ r. ⌜ r ≡ Angle.angleRadians degrees a ⌝ }
 {
     if degrees {
-        to_radians(Degrees(a))
+        trig::to_radians(Degrees(a))
     } else {
         Radians(a)
     }
@@ -48,10 +36,9 @@ pub fn angle_radians(a: f64, degrees: bool) -> Radians
 
 // The rotation about an axis by the angle of an operation.
 fn rotation(axis: Vec3, a: f64, degrees: bool) -> Mat4
-    ensures { λ m. ⌜ m ≡ Ops.turned degrees axis a ⌝ }
+    ensures { λ m. ⌜ m ≡ Ops.rotationBy degrees axis a ⌝ }
 {
-    let r = angle_radians(a, degrees);
-    math_matrix::rotation(axis, r.0)
+    math_matrix::rotation(axis, angle_radians(a, degrees))
 }
 
 // The matrix of an operation.
@@ -72,7 +59,7 @@ pub fn op_matrix(op: TransformOp, degrees: bool) -> Mat4
 
 // How many of 16 operations a count takes.
 pub fn at_most_16(count: usize) -> usize
-    ensures { λ r. ⌜ r ≡ min count 16 ⌝ }
+    ensures { λ r. ⌜ r ≡ min count mostOps ⌝ }
 {
     if count < 16 { count } else { 16 }
 }
@@ -86,7 +73,7 @@ pub fn fold(ops: [TransformOp; 16], count: usize, degrees: bool) -> Mat4
     let mut i = 0;
     while i < n {
         let op = ops[i];
-        acc = math_matrix_product::product(op_matrix(op, degrees), acc);
+        acc = math_matrix_ops::product(op_matrix(op, degrees), acc);
         i += 1;
     }
     acc

@@ -11,7 +11,7 @@ use Rattle.ieee.specs.Same.{Same, isZero, plusZero, same-refl, neg-same, add-sa
 use Rattle.ieee.specs.Whole.{mod4}
 use Rattle.ieee.specs.WholeLaws.{nearest-zero}
 use Rattle.trig.specs.declared.SinCos.{SinCos}
-use Rattle.trig.specs.Trig.{constH, constA, constB, constC, reduced, over, horner, sineTerms, cosineTerms, sineSum, cosineSum, quadrant, fromReduced, fromWhole, sinCos}
+use Rattle.trig.specs.Trig.{constH, constA, constB, constC, reduced, overFactorial, horner, sineTerms, cosineTerms, sineSum, cosineSum, quadrant, fromReduced, fromWhole, sinCos}
 
 -- 1.0 and -0.0
 abbrev pub one : Float
@@ -57,11 +57,11 @@ horner-same z w c (d ∷ ds) h =
 
 sine-sum-same : (z w : Float) → Same z w → Same (sineSum z) (sineSum w)
 unfolding sineSum
-sine-sum-same z w h = horner-same z w (over 1) sineTerms h
+sine-sum-same z w h = horner-same z w (overFactorial 1) sineTerms h
 
 cosine-sum-same : (z w : Float) → Same z w → Same (cosineSum z) (cosineSum w)
 unfolding cosineSum
-cosine-sum-same z w h = horner-same z w (over 0) cosineTerms h
+cosine-sum-same z w h = horner-same z w (overFactorial 0) cosineTerms h
 
 -- both results
 abbrev Pair : SinCos → SinCos → Type 0

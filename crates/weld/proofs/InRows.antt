@@ -10,7 +10,7 @@ use Rattle.mesh_spec.specs.Slices.{vertexAt}
 use Rattle.weld_vertex.specs.Points.{Clean}
 use Rattle.weld_hash.specs.Hash.{Stored}
 use Rattle.weld_vertex.proofs.Clean.{same-data}
-use Rattle.weld_hash.proofs.Chains.{not-both}
+use Rattle.slice_law.specs.Bools.{not-both}
 use Rattle.weld_order.specs.declared.Row.{Row}
 use Rattle.weld_order.specs.Rows.{within, Follows}
 use Rattle.weld.specs.declared.Welder.{Welder}

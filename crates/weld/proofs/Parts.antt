@@ -13,7 +13,7 @@ use Rattle.weld_order.specs.declared.Row.{Row}
 use Rattle.weld.specs.declared.Welder.{Welder}
 use Rattle.weld_hash.specs.Hash.{latest, Stored, Chained}
 use Rattle.weld_hash.proofs.Chains.{agree-same, agree-as, chained-part}
-use Rattle.slice.specs.Every.{wholePlaces, placesOf}
+use Rattle.slice.specs.Every.{countedPlaces, placesOf}
 use Rattle.weld.specs.Rep.{held, indexed, Holds, Over, Begun, Parted}
 use Rattle.weld.proofs.Places.{places-fit}
 
@@ -39,7 +39,7 @@ same-either false n = refl
 
 pub begun : (vs : List Float) (ws : List ℕ) (n : ℕ) → n ≡ placesOf vs → 2 * (length vs / 3) ≤ length ws → ((k : ℕ) → getD ws k 0 ≡ 0) → (r : Row) (o : Bool)
     → Begun (record { base = 0; count = 0; places = n; faces = 0; near = r .near; finite = true; room = true; ordered = o; rising = r .rising }) vs ws
-unfolding wholePlaces append
+unfolding countedPlaces append
 begun vs ws n e b z r o =
     record {
       ready = λ ts. record {

@@ -9,7 +9,7 @@ use lib.Seq.{getD-take, sets-eq, take-at, length-take-le}
 use lib.Ieee.{Float, nan}
 use Rattle.math.specs.declared.Vec3.{Vec3}
 use Rattle.mesh_spec.specs.Slices.{flatV, vertexAt}
-use Rattle.slice.specs.Every.{wholePlaces, placesOf}
+use Rattle.slice.specs.Every.{countedPlaces, placesOf}
 
 module _ {A : Type 0} where
   -- the front of a list after three stores at its end
@@ -56,13 +56,13 @@ flatV-at (v ∷ vs) (suc k) d h = step ∙ flatV-at vs k d (le-of-suc-le-suc h)
 -- ---- whole places
 module _ {A : Type 0} (l : List A) where
   pub places-fit : 3 * placesOf l ≤ length l
-  unfolding wholePlaces
+  unfolding countedPlaces
   places-fit = omega (arith, min-le-left (length l / 3) 4294967295)
 
   pub places-limit : placesOf l ≤ 4294967295
-  unfolding wholePlaces
+  unfolding countedPlaces
   places-limit = min-le-right (length l / 3) 4294967295
 
 pub places-long : {A : Type 0} (l k : List A) → length l ≡ length k → placesOf l ≡ placesOf k
-unfolding wholePlaces
-places-long l k e = ap wholePlaces e
+unfolding countedPlaces
+places-long l k e = ap countedPlaces e

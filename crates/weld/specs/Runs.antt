@@ -7,6 +7,7 @@ use Prim.Native.Nat.{ℕ, _≤_}
 use native.Mathlib.Omega.{arith}
 use lib.ListN.{length}
 use lib.Ieee.{Float}
+use Rattle.slice_law.specs.Bools.{and-true, and-left, and-assoc, true-unless}
 use Rattle.math.specs.declared.Vec3.{Vec3}
 use Rattle.mesh_balance_spec.specs.Soup.{Tri}
 use Rattle.mesh_spec.specs.Mesh.{Mesh, noMesh, append, weldSoup, fromSoup, everyFinite}
@@ -15,22 +16,10 @@ use Rattle.weld.specs.declared.Welder.{Welder}
 use Rattle.slice.specs.Every.{placesOf}
 use Rattle.weld.specs.Rep.{Held, held, Ready, Holds, Over, Rep, Runs, Begun}
 
-and-true : (a : Bool) → a ≡ (a && true)
-and-true true = refl
-and-true false = refl
-
-and-left : (a b : Bool) → (a && b) ≡ true → a ≡ true
-and-left true b h = refl
-and-left false b h = h
-
-and-assoc : (a b c : Bool) → (a && b && c) ≡ (a && (b && c))
-and-assoc true b c = refl
-and-assoc false b c = refl
-
 -- the empty soup
 pub runs-none : (h : Held) → Ready h → Runs [] h h
 unfolding weldSoup everyFinite
-runs-none h R = record { ready = R; vlong = refl; tlong = refl; wlong = refl; finite = and-true (h .st .finite); rep = λ e D S Q. Q }
+runs-none h R = record { ready = R; vlong = refl; tlong = refl; wlong = refl; finite = sym (and-true (h .st .finite)); rep = λ e D S Q. Q }
 
 -- one soup, then another
 pub runs-then : (xs ys : List (Tri Vec3)) (h k l : Held) → Runs xs h k → Runs ys k l → Runs (xs ++ ys) h l
@@ -87,13 +76,9 @@ pub over-not-fits : (M : Mesh) (h : Held) → Over M h → Fits M h → ⊥
 over-not-fits M h (inl w) f = omega (arith, f .0)
 over-not-fits M h (inr w) f = omega (arith, f .1)
 
-roomy : (b : Bool) → (b ≡ false → ⊥) → b ≡ true
-roomy true h = refl
-roomy false h = absurd (h refl)
-
 -- there is room exactly where the mesh fits
 pub room-exact : (D S : Mesh) (h : Held) → Ready h → Rep D S h → (h .st .room ≡ true) ↔ Fits (append D S) h
-room-exact D S h R Q = ((λ e. holds-fits (append D S) h R (Q .holds e)), (λ f. roomy (h .st .room) (λ e. over-not-fits (append D S) h (Q .over e) f)))
+room-exact D S h R Q = ((λ e. holds-fits (append D S) h R (Q .holds e)), (λ f. true-unless (h .st .room) (λ e. over-not-fits (append D S) h (Q .over e) f)))
 
 -- a whole soup, from the beginning: the answer to refusal 5, and to refusal 7, and the mesh
 pub record Ended (M : Mesh) (soup : List (Tri Vec3)) (k : Held) : Type 0 where

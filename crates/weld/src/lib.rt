@@ -50,7 +50,7 @@ pub fn begin(vertices: &[f64], work: &[u32]) -> Welder
     Welder {
         base: 0,
         count: 0,
-        places: slice::whole_places(vertices.len()),
+        places: slice::counted_places(vertices.len()),
         faces: 0,
         near: 0.0,
         finite: true,

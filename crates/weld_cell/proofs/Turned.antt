@@ -7,7 +7,7 @@ use lib.Ieee.{Float}
 use Rattle.math.specs.declared.Vec3.{Vec3}
 use Rattle.mesh_balance_spec.specs.Soup.{Tri}
 use Rattle.mesh_balance_spec.specs.Grid.{quad, turned}
-use Rattle.weld_hash.proofs.Chains.{not-both}
+use Rattle.slice_law.specs.Bools.{not-both}
 use Rattle.weld_triangle.specs.declared.Welded.{Welded}
 use Rattle.weld.specs.declared.Welder.{Welder}
 use Rattle.weld.specs.Rep.{Held, Linked}

@@ -12,6 +12,7 @@ use lib.ListN.{length, getD, set, length-set}
 use lib.Seq.{getD-set-same}
 use lib.Dec.{eqb}
 use lib.Ieee.{Float}
+use Rattle.slice_law.specs.Bools.{not-both}
 use Rattle.math.specs.declared.Vec3.{Vec3}
 use Rattle.mesh_spec.specs.Mesh.{samePoint}
 use Rattle.weld_hash.specs.declared.Found.{Found}
@@ -95,10 +96,6 @@ split3 zero zero = inr (inl refl)
 split3 zero (suc n) = inl (omega arith)
 split3 (suc m) zero = inr (inr (omega arith))
 split3 (suc m) (suc n) = ⊎-elim (λ w. inl (suc-le-suc w)) (⊎-elim (λ e. inr (inl (ap suc e))) (λ w. inr (inr (suc-le-suc w)))) (split3 m n)
-
-pub not-both : (t : Bool) → t ≡ true → t ≡ false → ⊥
-not-both true p q = let z : _≡_ {A = ℕ} 0 1 = ap (λ (b : Bool). cond b 0 1) q in omega (arith, z)
-not-both false p q = let z : _≡_ {A = ℕ} 1 0 = ap (λ (b : Bool). cond b 0 1) p in omega (arith, z)
 
 module _ (vs : List Float) (places base count : ℕ) (h : Stored vs places base count) (p : Vec3) (cp : Clean p) where
   -- a vertex that equals p is in p's bucket

@@ -12,7 +12,8 @@ use Rattle.weld_vertex.specs.Points.{CleanFloat, Clean}
 use Rattle.weld_vertex.proofs.Clean.{eq-data}
 use Rattle.weld_order.specs.declared.Row.{Row}
 use Rattle.weld_order.specs.Rows.{beside, within, Follows}
-use Rattle.weld_order.proofs.Within.{false-T, level-is, above-is, facts, made, rising-near, rising-facts, falling-facts, rising-made, falling-made}
+use Rattle.slice_law.specs.Bools.{false-T}
+use Rattle.weld_order.proofs.Within.{level-is, above-is, facts, made, rising-near, rising-facts, falling-facts, rising-made, falling-made}
 
 number : (x : Float) → CleanFloat x → T (not (isNan x))
 number x c = finite-not-nan x (c .finitely)

@@ -1,6 +1,6 @@
 -- `beside` and `within` by their cases. Assumes nothing.
 use mathlib.Core.Path.{_≡_, sym, ap, _∙_, subst}
-use mathlib.Core.Bool.{Bool, true, false, not, _&&_, _||_, cond}
+use mathlib.Core.Bool.{Bool, true, false, _&&_, _||_, cond}
 use mathlib.Core.Logic.{_⊎_, inl, inr}
 use lib.Dec.{T}
 use lib.Ieee.{lt, le, eq}
@@ -9,9 +9,6 @@ use Rattle.ieee.specs.Same.{or-l, or-r, or-split, T-true, true-T}
 use Rattle.math.specs.declared.Vec3.{Vec3}
 use Rattle.weld_order.specs.declared.Row.{Row}
 use Rattle.weld_order.specs.Rows.{beside, within}
-
-pub false-T : (b : Bool) → b ≡ false → T (not b)
-false-T b e = subst (λ (t : Bool). T (not t)) (sym e) tt
 
 module _ (r : Row) (v q : Vec3) where
   -- ---- the cases of `is_beside`

@@ -17,7 +17,8 @@ use Rattle.mesh_spec.specs.Slices.{vertexAt}
 use Rattle.weld_vertex.specs.Points.{Clean}
 use Rattle.weld_vertex.proofs.Clean.{clean-self, equal-clean}
 use Rattle.weld_hash.specs.Hash.{Stored, FirstAt}
-use Rattle.weld_hash.proofs.Chains.{not-both, first-at}
+use Rattle.slice_law.specs.Bools.{not-both}
+use Rattle.weld_hash.proofs.Chains.{first-at}
 use Rattle.weld.specs.declared.Welder.{Welder}
 use Rattle.weld_triangle.specs.declared.Welded.{Welded}
 use Rattle.weld.specs.Rep.{Held, held, Linked, Ready, Rep, Runs}

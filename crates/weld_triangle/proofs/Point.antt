@@ -27,7 +27,8 @@ use Rattle.weld_triangle.specs.Steps.{withVertex, PointRuns}
 use Rattle.weld.proofs.Places.{take-three, take-vertex, flatV-at, places-limit, places-long}
 use Rattle.weld_vertex.proofs.Clean.{clean-self}
 use Rattle.weld_vertex.proofs.Places.{placed-at, placed-before}
-use Rattle.weld_hash.proofs.Chains.{not-both, first-stays, first-new, stored-more, chained-still, chained-more}
+use Rattle.slice_law.specs.Bools.{not-both}
+use Rattle.weld_hash.proofs.Chains.{first-stays, first-new, stored-more, chained-still, chained-more}
 
 -- ---- a look-up in the slice is a look-up in the part
 module _ (us ws : List Vec3) (vs : List Float) (count : ℕ) (front : flatV (us ++ ws) ≡ take (3 * count) vs) (long : length (us ++ ws) ≡ count) (p : Vec3) where

@@ -21,7 +21,7 @@ use Rattle.weld.specs.Rep.{Held, held, rowOf, Linked, Ready, Holds, Over, Rep, 
 use Rattle.weld.specs.States.{unfinite, shut, moreFaces}
 use Rattle.weld_triangle.specs.Steps.{withTriangle, weldPoints, PointRuns, TriangleRuns, PointsRun}
 use Rattle.weld.proofs.Places.{take-three, places-fit, places-long}
-use Rattle.weld_hash.proofs.Chains.{not-both}
+use Rattle.slice_law.specs.Bools.{not-both}
 use Rattle.weld_triangle.proofs.Point.{rep-shut, three-more}
 
 -- ---- three different numbers

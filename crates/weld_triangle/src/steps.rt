@@ -106,7 +106,7 @@ pub fn add_triangle(triangles: &mut [u32], w: Welder, a: usize, b: usize, c: usi
     if a == c {
         return w;
     }
-    if slice::whole_places(triangles.len()) <= faces {
+    if slice::counted_places(triangles.len()) <= faces {
         return weld::full(w);
     }
     let at = 3 * faces;

@@ -16,11 +16,11 @@ half-up-requires : tie.Need-half-up-requires
 unfolding ofBits neg
 half-up-requires c κs = near-neg-asks (c .before .before .args .p) (c .before .if1 .taken) (c .if2 .taken)
 
-back-requires : tie.Need-back-requires
-back-requires c κs = search needs
+minus-as-float-requires : tie.Need-minus-as-float-requires
+minus-as-float-requires c κs = search needs
 
-quarter-back-requires : tie.Need-quarter-back-requires
-quarter-back-requires c κs = search needs
+minus-mod-4-requires : tie.Need-minus-mod-4-requires
+minus-mod-4-requires c κs = search needs
 
 truncating-f64-to-u64-requires : tie.Need-truncating-f64-to-u64-requires
 unfolding ofBits neg
@@ -28,15 +28,15 @@ truncating-f64-to-u64-requires c κs =
     let k = mid-neg-cut (c .before .before .before .args .p) (c .before .before .if1 .taken) (c .if3 .taken) in
     (k .0, k .1)
 
-quarter-back-requires-2 : tie.Need-quarter-back-requires-2
-quarter-back-requires-2 c κs = search needs
+minus-mod-4-requires-2 : tie.Need-minus-mod-4-requires-2
+minus-mod-4-requires-2 c κs = search needs
 
 half-up-requires-2 : tie.Need-half-up-requires-2
 unfolding ofBits
 half-up-requires-2 c κs = near-pos-asks (c .before .before .args .p) (c .before .if1 .left) (c .if4 .taken)
 
-forth-requires : tie.Need-forth-requires
-forth-requires c κs = search needs
+as-float-requires : tie.Need-as-float-requires
+as-float-requires c κs = search needs
 
 truncating-f64-to-u64-requires-2 : tie.Need-truncating-f64-to-u64-requires-2
 unfolding ofBits
@@ -49,7 +49,7 @@ unfolding ofBits neg
 returns c =
     let called = c .before .before in
     let tested = called .before in
-    (λ i. whole (c .before .back .ensures i) (c .quarter-back .ensures i))
+    (λ i. whole (c .before .minus-as-float .ensures i) (c .minus-mod-4 .ensures i))
     ∙ near-neg (tested .before .before .args .p) (called .half-up .result) (tested .before .if1 .taken) (tested .if2 .taken) (called .half-up .ensures .0)
 
 returns-2 : tie.Need-returns-2
@@ -58,7 +58,7 @@ returns-2 c =
     let called = c .before in
     let tested = called .before in
     let start = tested .before .before .before in
-    ap (whole (start .args .p)) (c .quarter-back2 .ensures)
+    ap (whole (start .args .p)) (c .minus-mod-42 .ensures)
     ∙ mid-neg (start .args .p) (called .truncating-f64-to-u64 .result) (held start) (tested .before .before .if1 .taken) (tested .before .if2 .left) (tested .if3 .taken)
     (called .truncating-f64-to-u64 .ensures)
 
@@ -71,7 +71,7 @@ unfolding ofBits
 returns-4 c =
     let called = c .before in
     let tested = called .before in
-    ap (λ (x : Float). whole x (called .half-up2 .result % 4)) (c .forth .ensures)
+    ap (λ (x : Float). whole x (called .half-up2 .result % 4)) (c .as-float .ensures)
     ∙ near-pos (tested .before .before .args .p) (called .half-up2 .result) (tested .before .if1 .left) (tested .if4 .taken) (called .half-up2 .ensures .0)
 
 returns-5 : tie.Need-returns-5
@@ -90,12 +90,12 @@ nearest-whole-spec =
     tie.close
     (tie.spec
     half-up-requires
-    back-requires
-    quarter-back-requires
+    minus-as-float-requires
+    minus-mod-4-requires
     truncating-f64-to-u64-requires
-    quarter-back-requires-2
+    minus-mod-4-requires-2
     half-up-requires-2
-    forth-requires
+    as-float-requires
     truncating-f64-to-u64-requires-2
     returns
     returns-2

@@ -13,7 +13,7 @@ use Rattle.math_matrix.proofs.row_of.Tie as tie
 
 -- a row starts at its number times 4
 fromPlace : Mat4 → ℕ → ℕ → Row
-fromPlace a i k = record { a = getD (a .m) k nan; b = entry a i 1; c = entry a i 2; d = entry a i 3 }
+fromPlace a i k = record { x = getD (a .m) k nan; y = entry a i 1; z = entry a i 2; w = entry a i 3 }
 
 starts : (a : Mat4) (i : ℕ) → fromPlace a i (i * 4) ≡ rowOf a i
 unfolding fromPlace

@@ -2,7 +2,7 @@
 use borrow.Author.Needs.{needs}
 use lib.Ieee.{ofBits}
 use Rattle.math_matrix.specs.Mat.{scaling}
-use Rattle.math_matrix.proofs.Made.{made}
+use Rattle.math_matrix.specs.MatLaws.{made}
 use Rattle.math_matrix.proofs.scaling.Statement.{statement}
 use Rattle.math_matrix.proofs.scaling.Tie as tie
 

@@ -2,7 +2,8 @@
 use denote.Ref.{now}
 use lib.ListN.{length}
 use Rattle.mesh_check.specs.State.{state, badMesh}
-use Rattle.mesh_check.proofs.Sound.{neither, sound, vertices-fit, triangles-fit, places-limit}
+use Rattle.slice_law.specs.Bools.{neither}
+use Rattle.mesh_check.proofs.Sound.{sound, vertices-fit, triangles-fit, places-limit}
 use Rattle.mesh_append_check.proofs.Tests.{bad-test, finite-tests, room-test, append-bad, append-not-finite, append-no-room, append-accepted}
 use borrow.Author.Needs.{needs}
 use native.Mathlib.Omega.{arith}
@@ -62,8 +63,8 @@ returns-2 c =
     let b = bad-test s o (c .before .before .before .before .before .bad-mesh .ensures) (c .before .before .before .before .bad-mesh2 .ensures) (c .before .before .before .if1 .left) in
     append-not-finite s o b (finite-tests s o (c .before .before .all-finite .ensures) (c .before .all-finite2 .ensures) (c .if2 .taken))
 
-whole-places-requires : tie.Need-whole-places-requires
-whole-places-requires c κs = search needs
+counted-places-requires : tie.Need-counted-places-requires
+counted-places-requires c κs = search needs
 
 add-if3 : tie.Need-add-if3
 add-if3 c =
@@ -75,8 +76,8 @@ add-if3 c =
     let l = places-limit (s .mesh .vertices) (length (s .vertices)) (vertices-fit s (g .0)) in
     omega (arith, l, places-limit (o .mesh .vertices) (length (o .vertices)) (vertices-fit o (g .1)))
 
-whole-places-requires-2 : tie.Need-whole-places-requires-2
-whole-places-requires-2 c κs = search needs
+counted-places-requires-2 : tie.Need-counted-places-requires-2
+counted-places-requires-2 c κs = search needs
 
 add-if3-2 : tie.Need-add-if3-2
 add-if3-2 c =
@@ -96,7 +97,7 @@ returns-3 c =
     let b = bad-test s o (c .before .before .before .before .before .before .before .before .bad-mesh .ensures) (c .before .before .before .before .before .before .before .bad-mesh2 .ensures) (c .before .before .before .before .before .before .if1 .left) in
     let g = neither (badMesh s) (badMesh o) b in
     let f = finite-tests s o (c .before .before .before .before .before .all-finite .ensures) (c .before .before .before .before .all-finite2 .ensures) (c .before .before .before .if2 .left) in
-    let r = room-test s o (sound s (g .0)) (sound o (g .1)) (c .before .before .whole-places .ensures) (c .before .whole-places2 .ensures) (c .if3 .taken) in
+    let r = room-test s o (sound s (g .0)) (sound o (g .1)) (c .before .before .counted-places .ensures) (c .before .counted-places2 .ensures) (c .if3 .taken) in
     append-no-room s o b f r
 
 returns-4 : tie.Need-returns-4
@@ -107,7 +108,7 @@ returns-4 c =
     let b = bad-test s o (c .before .before .before .before .before .before .before .before .bad-mesh .ensures) (c .before .before .before .before .before .before .before .bad-mesh2 .ensures) (c .before .before .before .before .before .before .if1 .left) in
     let g = neither (badMesh s) (badMesh o) b in
     let f = finite-tests s o (c .before .before .before .before .before .all-finite .ensures) (c .before .before .before .before .all-finite2 .ensures) (c .before .before .before .if2 .left) in
-    let r = room-test s o (sound s (g .0)) (sound o (g .1)) (c .before .before .whole-places .ensures) (c .before .whole-places2 .ensures) (c .if3 .left) in
+    let r = room-test s o (sound s (g .0)) (sound o (g .1)) (c .before .before .counted-places .ensures) (c .before .counted-places2 .ensures) (c .if3 .left) in
     append-accepted s o b f r
 
 pub append-refusal-spec : {M : Type 1} → statement M
@@ -122,9 +123,9 @@ append-refusal-spec =
     mul-all-finite-2
     all-finite-requires-2
     returns-2
-    whole-places-requires
+    counted-places-requires
     add-if3
-    whole-places-requires-2
+    counted-places-requires-2
     add-if3-2
     returns-3
     returns-4)

@@ -8,7 +8,7 @@ use lib.ListN.{length, drop}
 use borrow.Author.Tests.{not-true, not-false}
 use Rattle.mesh_balance_spec.specs.Buffer.{tris}
 use Rattle.slice.specs.Every.{every}
-use Rattle.slice.proofs.Next.{every-end}
+use Rattle.slice.specs.EveryLaws.{every-end}
 use Rattle.mesh_triples.specs.Triples.{tripleAt}
 use Rattle.mesh_triples.proofs.NextTriples.{next-tris}
 use Rattle.mesh_closed.specs.Even.{evenTriangle}

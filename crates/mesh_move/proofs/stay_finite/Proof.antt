@@ -6,16 +6,16 @@ use Rattle.mesh_move_affine.proofs.BoundedLaws.{tested-small, tested-finite}
 use Rattle.mesh_move.proofs.stay_finite.Statement.{statement}
 use Rattle.mesh_move.proofs.stay_finite.Tie as tie
 
-mul-all-within : tie.Need-mul-all-within
-mul-all-within c = search needs
+mul-all-bounded : tie.Need-mul-all-bounded
+mul-all-bounded c = search needs
 
-all-within-requires : tie.Need-all-within-requires
-all-within-requires c κs = search needs
+all-bounded-requires : tie.Need-all-bounded-requires
+all-bounded-requires c κs = search needs
 
 keep-finite-requires : tie.Need-keep-finite-requires
 keep-finite-requires c κs =
     let a = c .before .before .before .args in
-    let p = c .before .all-within in
+    let p = c .before .all-bounded in
     tested-small (now (a .vertices)) (a .n) (p .result) (c .before .before .before .pre) (p .ensures) (c .if1 .taken)
 
 returns : tie.Need-returns
@@ -46,8 +46,8 @@ pub stay-finite-spec : {M : Type 1} → statement M
 stay-finite-spec =
     tie.close
     (tie.spec
-    mul-all-within
-    all-within-requires
+    mul-all-bounded
+    all-bounded-requires
     keep-finite-requires
     returns
     mul-all-finite

@@ -11,7 +11,8 @@ use Rattle.math_matrix.specs.Mat.{transformPoint}
 use Rattle.mesh_spec.specs.Slices.{points, vertexAt}
 use Rattle.mesh_spec.specs.SliceLaws.{length-points}
 use Rattle.slice.specs.Every.{every}
-use Rattle.slice.proofs.Next.{next-map, every-turn, every-done}
+use Rattle.slice_law.specs.Next.{next-map}
+use Rattle.slice.specs.EveryLaws.{every-turn, every-done}
 use Rattle.mesh_triples.proofs.NextTriples.{next-points}
 use native.Mathlib.Omega.{arith}
 use Rattle.mesh_move.proofs.stay_finite_divided.Statement.{statement}

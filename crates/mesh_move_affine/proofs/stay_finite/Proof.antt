@@ -13,7 +13,8 @@ use Rattle.mesh_spec.specs.SliceLaws.{length-points}
 use Rattle.slice.specs.Every.{every}
 use Rattle.mesh_move_affine.specs.Affine.{affinePoint}
 use Rattle.mesh_move_affine.proofs.AffineLaws.{affine-vertex}
-use Rattle.slice.proofs.Next.{next-map, every-turn, every-done}
+use Rattle.slice_law.specs.Next.{next-map}
+use Rattle.slice.specs.EveryLaws.{every-turn, every-done}
 use Rattle.mesh_triples.proofs.NextTriples.{next-points}
 use native.Mathlib.Omega.{arith}
 use Rattle.mesh_move_affine.proofs.stay_finite.Statement.{statement}

@@ -52,7 +52,7 @@ returns c =
     (d .before .sub2 .result) (d .cross .result) (c .sqrt .result)
     (d .before .before .before .before .before .corner .ensures) (d .before .before .before .before .corner2 .ensures)
     (d .before .before .before .corner3 .ensures) (d .before .before .sub .ensures) (d .before .sub2 .ensures) (d .cross .ensures)
-    (c .sqrt .ensures ∙ ap (sqrt binary64) (c .before .norm-sq .ensures))
+    (c .sqrt .ensures .value ∙ ap (sqrt binary64) (c .before .norm-sq .ensures))
 
 pub area-term-spec : {M : Type 1} → statement M
 area-term-spec =

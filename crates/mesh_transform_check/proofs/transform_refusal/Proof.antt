@@ -6,7 +6,8 @@ use lib.ListN.{take}
 use borrow.Author.Tests.{not-true, not-false}
 use Rattle.transform.specs.Checks.{opsFinite}
 use Rattle.mesh_check.specs.State.{state, badMesh, notFinite}
-use Rattle.mesh_check.proofs.Sound.{neither, sound, tested}
+use Rattle.slice_law.specs.Bools.{neither}
+use Rattle.mesh_check.proofs.Sound.{sound, tested}
 use Rattle.mesh_transform_check.proofs.Tests.{finite-tests, transform-bad, transform-long, transform-not-finite, transform-rest}
 use borrow.Author.Needs.{needs}
 use native.Mathlib.Omega.{arith}
@@ -33,15 +34,15 @@ returns-2 c =
     let k = sym (c .before .op-count-within .ensures) ∙ not-true _ (c .if2 .taken) in
     transform-long (a .ops) (a .op-count) (a .degrees) s g k
 
-mul-all-within : tie.Need-mul-all-within
-mul-all-within c =
+mul-all-bounded : tie.Need-mul-all-bounded
+mul-all-bounded c =
     let a = c .before .before .before .before .before .before .args in
     let s = state (a .mesh) (now (a .vertices)) (now (a .triangles)) in
     let g : badMesh s ≡ false = sym (c .before .before .before .bad-mesh .ensures) ∙ c .before .before .if1 .left in
     omega (arith, sound s g .vertices)
 
-all-within-requires : tie.Need-all-within-requires
-all-within-requires c κs =
+all-bounded-requires : tie.Need-all-bounded-requires
+all-bounded-requires c κs =
     let a = c .before .before .before .before .before .before .args in
     let s = state (a .mesh) (now (a .vertices)) (now (a .triangles)) in
     let g : badMesh s ≡ false = sym (c .before .before .before .bad-mesh .ensures) ∙ c .before .before .if1 .left in
@@ -59,7 +60,7 @@ all-finite-requires c κs =
     let a = c .before .before .before .before .before .before .before .args in
     let s = state (a .mesh) (now (a .vertices)) (now (a .triangles)) in
     let g : badMesh s ≡ false = sym (c .before .before .before .before .bad-mesh .ensures) ∙ c .before .before .before .if1 .left in
-    record { there = sound s g .vertices; bounded = λ t. sym (c .all-within .ensures) ∙ t }
+    record { there = sound s g .vertices; bounded = λ t. sym (c .all-bounded .ensures) ∙ t }
 
 ops-finite-requires : tie.Need-ops-finite-requires
 ops-finite-requires c κs = search needs
@@ -80,7 +81,7 @@ move-refusal-requires c κs =
     let used = take (a .op-count) (a .ops) in
     let g : badMesh s ≡ false = sym (c .before .before .before .before .before .before .before .bad-mesh .ensures) ∙ c .before .before .before .before .before .before .if1 .left in
     let f = neither (notFinite s) (not (opsFinite used)) (finite-tests s used (c .before .before .all-finite .ensures) (c .before .ops-finite .ensures) (c .if3 .left)) .0 in
-    let w = c .before .before .before .all-within in
+    let w = c .before .before .before .all-bounded in
     tested s g f (w .result) (w .ensures)
 
 returns-4 : tie.Need-returns-4
@@ -100,8 +101,8 @@ transform-refusal-spec =
     returns
     op-count-within-requires
     returns-2
-    mul-all-within
-    all-within-requires
+    mul-all-bounded
+    all-bounded-requires
     mul-all-finite
     all-finite-requires
     ops-finite-requires

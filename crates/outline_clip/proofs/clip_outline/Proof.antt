@@ -5,8 +5,8 @@ use native.Mathlib.Omega.{arith}
 use lib.ListN.{length}
 use lib.Ieee.Scale.{finite}
 use borrow.Author.Tests.{not-true, not-false}
-use Rattle.slice.proofs.Clearing.{cleared-all}
-use Rattle.slice.proofs.Next.{every-all}
+use Rattle.slice.specs.ClearedLaws.{cleared-all}
+use Rattle.slice.specs.EveryLaws.{every-all}
 use Rattle.outline_clip.proofs.Outcomes.{outcome-refused, outcome-long, outcome-odd, outcome-infinite, outcome-room, outcome-done}
 use borrow.Author.Needs.{needs}
 use Rattle.outline_clip.proofs.clip_outline.Statement.{statement}

@@ -5,7 +5,7 @@ use native.Mathlib.Omega.{arith}
 use borrow.Author.Needs.{needs}
 use lib.Ieee.{Float, binary64, toBits}
 use Rattle.root.proofs.Neighbours.{below-square, unwrapped, at}
-use Rattle.root.proofs.Patterns.{no-nan}
+use Rattle.ieee.specs.Nan.{no-nan}
 use Rattle.root.proofs.near_root.Statement.{statement}
 use Rattle.root.proofs.near_root.Tie as tie
 

@@ -7,7 +7,7 @@ use denote.Enum.Declared.{tagOf}
 use lib.Ieee.{Float}
 use lib.Ieee.Scale.{finite}
 use Rattle.slice.specs.Every.{every}
-use Rattle.slice.proofs.Next.{every-all}
+use Rattle.slice.specs.EveryLaws.{every-all}
 use Rattle.shape.proofs.Items as ofItems
 use Rattle.shape.specs.declared.Items.{Items}
 use Rattle.shape.specs.declared.Items.the-variants.{NoItems, Corners, Points, Boxes}

@@ -6,7 +6,8 @@ use Prim.Native.Nat.{ℕ, _≤_, _<_, _-_}
 use lib.ListN.{length, take, drop, getD, length-take}
 use lib.Dec.{ltb}
 use Rattle.slice.specs.Every.{every}
-use Rattle.slice.proofs.Next.{next-take, every-turn, every-done}
+use Rattle.slice_law.specs.Next.{next-take}
+use Rattle.slice.specs.EveryLaws.{every-turn, every-done}
 use native.Mathlib.Omega.{arith}
 use Rattle.slice.proofs.all_below.Statement.{statement}
 use Rattle.slice.proofs.all_below.Tie as tie

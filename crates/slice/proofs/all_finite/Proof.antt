@@ -7,7 +7,8 @@ use lib.ListN.{length, take, drop, getD, length-take}
 use lib.Ieee.{nan}
 use lib.Ieee.Scale.{finite}
 use Rattle.slice.specs.Every.{every}
-use Rattle.slice.proofs.Next.{next-take, every-turn, every-done}
+use Rattle.slice_law.specs.Next.{next-take}
+use Rattle.slice.specs.EveryLaws.{every-turn, every-done}
 use native.Mathlib.Omega.{arith}
 use Rattle.slice.proofs.all_finite.Statement.{statement}
 use Rattle.slice.proofs.all_finite.Tie as tie

@@ -4,7 +4,7 @@ use Prim.Native.Nat.{ℕ, _+_, _-_}
 use native.Mathlib.Omega.{arith}
 use lib.ListN.{length, length-set}
 use lib.Ieee.{Float, binary64, ofBits}
-use Rattle.slice.proofs.Clearing.{Clearing, clearing-none, clearing-more, clearing-done}
+use Rattle.slice.specs.ClearedLaws.{Clearing, clearing-none, clearing-more, clearing-done}
 use Rattle.slice.proofs.clear_floats.Statement.{statement}
 use Rattle.slice.proofs.clear_floats.Tie as tie
 

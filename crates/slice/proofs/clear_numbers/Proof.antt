@@ -3,7 +3,7 @@ use denote.Ref.{now}
 use Prim.Native.Nat.{ℕ, _+_, _-_}
 use native.Mathlib.Omega.{arith}
 use lib.ListN.{length, length-set}
-use Rattle.slice.proofs.Clearing.{Clearing, clearing-none, clearing-more, clearing-done}
+use Rattle.slice.specs.ClearedLaws.{Clearing, clearing-none, clearing-more, clearing-done}
 use Rattle.slice.proofs.clear_numbers.Statement.{statement}
 use Rattle.slice.proofs.clear_numbers.Tie as tie
 

@@ -6,7 +6,7 @@ use native.Mathlib.Omega.{arith}
 use borrow.Author.Needs.{needs}
 use lib.ListN.{length, take}
 use Rattle.transform.specs.Ops.{foldFrom, folded}
-use Rattle.transform.proofs.Loops.{take-most, folded-one-more}
+use Rattle.transform.specs.OpsLaws.{take-most, folded-one-more}
 use Rattle.transform.proofs.fold.Statement.{statement}
 use Rattle.transform.proofs.fold.Tie as tie
 

@@ -5,12 +5,12 @@ use mathlib.Core.Bool.{Bool}
 use lib.Ieee.{Float}
 use Rattle.math.specs.declared.Vec3.{Vec3}
 use Rattle.math_matrix.specs.declared.Mat4.{Mat4}
-use Rattle.transform.specs.Ops.{opMatrix, turned}
+use Rattle.transform.specs.Ops.{opMatrix, rotationBy}
 use Rattle.transform.proofs.op_matrix.Statement.{statement}
 use Rattle.transform.proofs.op_matrix.Tie as tie
 
-turned-unit : (degrees : Bool) (a : Float) {m : Mat4} {u v : Vec3} → m ≡ turned degrees u a → u ≡ v → m ≡ turned degrees v a
-turned-unit degrees a e f = e ∙ ap (λ v. turned degrees v a) f
+rotationBy-unit : (degrees : Bool) (a : Float) {m : Mat4} {u v : Vec3} → m ≡ rotationBy degrees u a → u ≡ v → m ≡ rotationBy degrees v a
+rotationBy-unit degrees a e f = e ∙ ap (λ v. rotationBy degrees v a) f
 
 enum-known-op : tie.Need-enum-known-op
 enum-known-op c = search needs
@@ -81,21 +81,21 @@ returns-3 : tie.Need-returns-3
 unfolding opMatrix
 returns-3 c =
     let args = c .before .before .before .before .before .args in
-    turned-unit (args .degrees) _ (c .rotation2 .ensures) (c .before .unit .ensures)
+    rotationBy-unit (args .degrees) _ (c .rotation2 .ensures) (c .before .unit .ensures)
     ∙ sym (ap (opMatrix (args .degrees)) (c .before .before .before .op3 .given .1))
 
 returns-4 : tie.Need-returns-4
 unfolding opMatrix
 returns-4 c =
     let args = c .before .before .before .before .before .args in
-    turned-unit (args .degrees) _ (c .rotation3 .ensures) (c .before .unit2 .ensures)
+    rotationBy-unit (args .degrees) _ (c .rotation3 .ensures) (c .before .unit2 .ensures)
     ∙ sym (ap (opMatrix (args .degrees)) (c .before .before .before .op4 .given .1))
 
 returns-5 : tie.Need-returns-5
 unfolding opMatrix
 returns-5 c =
     let args = c .before .before .before .before .before .args in
-    turned-unit (args .degrees) _ (c .rotation4 .ensures) (c .before .unit3 .ensures)
+    rotationBy-unit (args .degrees) _ (c .rotation4 .ensures) (c .before .unit3 .ensures)
     ∙ sym (ap (opMatrix (args .degrees)) (c .before .before .before .op5 .given .1))
 
 returns-6 : tie.Need-returns-6

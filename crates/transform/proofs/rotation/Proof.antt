@@ -1,9 +1,8 @@
 -- `transform::rotation` meets its contract. Assumes nothing.
 use mathlib.Core.Path.{ap, _∙_}
 use Rattle.math_matrix.specs.Mat.{rotation as turn}
-use Rattle.transform.specs.declared.Radians.{Radians}
 use borrow.Author.Needs.{needs}
-use Rattle.transform.specs.Ops.{turned}
+use Rattle.transform.specs.Ops.{rotationBy}
 use Rattle.transform.proofs.rotation.Statement.{statement}
 use Rattle.transform.proofs.rotation.Tie as tie
 
@@ -14,8 +13,8 @@ rotation-requires : tie.Need-rotation-requires
 rotation-requires c κs = search needs
 
 returns : tie.Need-returns
-unfolding turned
-returns c = c .rotation .ensures ∙ ap (λ (r : Radians). turn (c .before .before .args .axis) (r .0)) (c .before .angle-radians .ensures)
+unfolding rotationBy
+returns c = c .rotation .ensures ∙ ap (turn (c .before .before .args .axis)) (c .before .angle-radians .ensures)
 
 pub rotation-spec : {M : Type 1} → statement M
 rotation-spec = tie.close (tie.spec angle-radians-requires rotation-requires returns)

@@ -15,7 +15,7 @@ sqrt-requires c κs = search needs
 
 returns : tie.Need-returns
 unfolding norm
-returns c = c .sqrt .ensures ∙ (λ i. sqrt binary64 (c .before .norm-sq .ensures i))
+returns c = c .sqrt .ensures .value ∙ (λ i. sqrt binary64 (c .before .norm-sq .ensures i))
 
 pub norm-spec : {M : Type 1} → statement M
 norm-spec = tie.close (tie.spec norm-sq-requires sqrt-requires returns)

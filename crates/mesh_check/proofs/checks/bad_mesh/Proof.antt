@@ -3,7 +3,7 @@ use denote.Ref.{now}
 use mathlib.Core.Path.{_≡_, sym, ap, _∙_, subst}
 use Prim.Native.Nat.{ℕ, _*_, _≤_, _<_}
 use lib.ListN.{length}
-use Rattle.slice.specs.Every.{wholePlaces}
+use Rattle.slice.specs.Every.{countedPlaces}
 use Rattle.mesh_check.specs.State.{state}
 use Rattle.mesh_check.proofs.Sound.{bad-vertices, bad-triangles, bad-numbers, places-three, places-limit}
 use borrow.Author.Needs.{needs}
@@ -11,16 +11,16 @@ use native.Mathlib.Omega.{arith}
 use Rattle.mesh_check.proofs.checks.bad_mesh.Statement.{statement}
 use Rattle.mesh_check.proofs.checks.bad_mesh.Tie as tie
 
-whole-places-requires : tie.Need-whole-places-requires
-whole-places-requires c κs = search needs
+counted-places-requires : tie.Need-counted-places-requires
+counted-places-requires c κs = search needs
 
 returns : tie.Need-returns
 returns c =
     let a = c .before .before .before .before .args in
     bad-vertices (state (a .mesh) (now (a .vertices)) (now (a .triangles))) (omega arith)
 
-whole-places-requires-2 : tie.Need-whole-places-requires-2
-whole-places-requires-2 c κs = search needs
+counted-places-requires-2 : tie.Need-counted-places-requires-2
+counted-places-requires-2 c κs = search needs
 
 returns-2 : tie.Need-returns-2
 returns-2 c =
@@ -30,19 +30,19 @@ returns-2 c =
 mul-all-below : tie.Need-mul-all-below
 mul-all-below c =
     let a = c .before .before .before .before .before .before .args in
-    let h : a .mesh .triangles ≤ wholePlaces (length (now (a .triangles))) = omega arith in
+    let h : a .mesh .triangles ≤ countedPlaces (length (now (a .triangles))) = omega arith in
     omega (arith, places-three (a .mesh .triangles) (length (now (a .triangles))) h)
 
 cast-all-below : tie.Need-cast-all-below
 cast-all-below c =
     let a = c .before .before .before .before .before .before .args in
-    let h : a .mesh .vertices ≤ wholePlaces (length (now (a .vertices))) = omega arith in
+    let h : a .mesh .vertices ≤ countedPlaces (length (now (a .vertices))) = omega arith in
     omega (arith, places-limit (a .mesh .vertices) (length (now (a .vertices))) h)
 
 all-below-requires : tie.Need-all-below-requires
 all-below-requires c κs =
     let a = c .before .before .before .before .before .before .args in
-    let h : a .mesh .triangles ≤ wholePlaces (length (now (a .triangles))) = omega arith in
+    let h : a .mesh .triangles ≤ countedPlaces (length (now (a .triangles))) = omega arith in
     omega (arith, places-three (a .mesh .triangles) (length (now (a .triangles))) h)
 
 returns-3 : tie.Need-returns-3
@@ -54,9 +54,9 @@ pub bad-mesh-spec : {M : Type 1} → statement M
 bad-mesh-spec =
     tie.close
     (tie.spec
-    whole-places-requires
+    counted-places-requires
     returns
-    whole-places-requires-2
+    counted-places-requires-2
     returns-2
     mul-all-below
     cast-all-below

@@ -31,10 +31,10 @@ float-at-requires-4 c κs = search needs
 returns : tie.Need-returns
 returns c i =
     record {
-      a = c .before .before .before .float-at .ensures i;
-      b = c .before .before .float-at2 .ensures i;
-      c = c .before .float-at3 .ensures i;
-      d = c .float-at4 .ensures i;
+      x = c .before .before .before .float-at .ensures i;
+      y = c .before .before .float-at2 .ensures i;
+      z = c .before .float-at3 .ensures i;
+      w = c .float-at4 .ensures i;
     }
 
 pub row-at-spec : {M : Type 1} → statement M

@@ -5,7 +5,7 @@ use denote.Ref.{now}
 use Prim.Native.Nat.{_-_}
 use native.Mathlib.Omega.{arith}
 use lib.ListN.{length, length-set}
-use Rattle.slice.proofs.Clearing.{Clearing, clearing-none, clearing-more, clearing-done}
+use Rattle.slice.specs.ClearedLaws.{Clearing, clearing-none, clearing-more, clearing-done}
 use Rattle.replay_slices.specs.Filling.{filled}
 use Rattle.replay_slices.proofs.filling.fill_floats.Statement.{statement}
 use Rattle.replay_slices.proofs.filling.fill_floats.Tie as tie

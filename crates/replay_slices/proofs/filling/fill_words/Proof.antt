@@ -3,7 +3,7 @@ use denote.Ref.{now}
 use Prim.Native.Nat.{_-_}
 use native.Mathlib.Omega.{arith}
 use lib.ListN.{length, length-set}
-use Rattle.slice.proofs.Clearing.{Clearing, clearing-none, clearing-more, clearing-done}
+use Rattle.slice.specs.ClearedLaws.{Clearing, clearing-none, clearing-more, clearing-done}
 use Rattle.replay_slices.specs.Filling.{wordA5}
 use Rattle.replay_slices.proofs.filling.fill_words.Statement.{statement}
 use Rattle.replay_slices.proofs.filling.fill_words.Tie as tie

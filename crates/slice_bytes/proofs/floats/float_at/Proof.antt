@@ -7,7 +7,6 @@ use Rattle.slice_bytes.proofs.floats.float_at.Tie as tie
 use Rattle.slice_bytes.proofs.floats.float_at.Reads as reads
 use Rattle.slice_bytes.proofs.floats.float_at.Lts as lts
 use Rattle.slice_bytes.proofs.bytes.long_at.Reads as long-at-reads
-use Rattle.slice_bytes.proofs.floats.from_bits.Reads as from-bits-reads
 
 long-at-requires : tie.Need-long-at-requires
 long-at-requires c κs = search needs

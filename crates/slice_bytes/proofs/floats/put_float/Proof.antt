@@ -8,7 +8,6 @@ use Rattle.slice_bytes.proofs.floats.put_float.Tie as tie
 use Rattle.slice_bytes.proofs.floats.put_float.Reads as reads
 use Rattle.slice_bytes.proofs.floats.put_float.Lts as lts
 use Rattle.slice_bytes.proofs.bytes.put_long.Reads as put-long-reads
-use Rattle.slice_bytes.proofs.floats.bits_of.Reads as bits-of-reads
 
 bits-of-requires : tie.Need-bits-of-requires
 bits-of-requires c κs = search needs

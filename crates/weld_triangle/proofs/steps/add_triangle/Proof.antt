@@ -5,7 +5,7 @@ use mathlib.Core.Logic.{inl, inr}
 use native.Mathlib.Omega.{arith}
 use lib.ListN.{length-set}
 use denote.Ref.{now}
-use Rattle.slice.specs.Every.{wholePlaces, placesOf}
+use Rattle.slice.specs.Every.{countedPlaces, placesOf}
 use Rattle.weld_triangle.proofs.Triangle.{triangle-shut, triangle-flat, triangle-full, triangle-new}
 use Rattle.weld_triangle.proofs.steps.add_triangle.Statement.{statement}
 use Rattle.weld_triangle.proofs.steps.add_triangle.Tie as tie
@@ -30,49 +30,49 @@ returns-4 c =
     let s = c .before .before .before .before .before in
     triangle-flat (s .args .a) (s .args .b) (s .args .c) (s .args .w) (now (s .args .triangles)) (s .pre .0) (not-false _ (c .before .before .before .if1 .left)) (inr (inr (c .if4 .taken)))
 
-whole-places-requires : tie.Need-whole-places-requires
-whole-places-requires c κs = search needs
+counted-places-requires : tie.Need-counted-places-requires
+counted-places-requires c κs = search needs
 
 full-requires : tie.Need-full-requires
 full-requires c κs = search needs
 
 returns-5 : tie.Need-returns-5
-unfolding wholePlaces
+unfolding countedPlaces
 returns-5 c =
     let s = c .before .before .before .before .before .before .before .before in
     rw (c .full .ensures)
     (triangle-full (s .args .a) (s .args .b) (s .args .c) (s .args .w) (now (s .args .triangles)) (s .pre .0) (c .before .before .before .before .before .if2 .left)
     (c .before .before .before .before .if3 .left) (c .before .before .before .if4 .left) (not-false _ (c .before .before .before .before .before .before .if1 .left))
-    (omega (arith, c .before .if5 .taken, c .before .before .whole-places .ensures)))
+    (omega (arith, c .before .if5 .taken, c .before .before .counted-places .ensures)))
 
 mul-at : tie.Need-mul-at
-unfolding wholePlaces
+unfolding countedPlaces
 mul-at c = search needs
 
 cast-triangles : tie.Need-cast-triangles
 cast-triangles c = search needs
 
 mul-triangles : tie.Need-mul-triangles
-unfolding wholePlaces
+unfolding countedPlaces
 mul-triangles c = search needs
 
 slice-write-triangles : tie.Need-slice-write-triangles
-unfolding wholePlaces
+unfolding countedPlaces
 slice-write-triangles c = search needs
 
 cast-triangles-2 : tie.Need-cast-triangles-2
 cast-triangles-2 c = search needs
 
 add-triangles : tie.Need-add-triangles
-unfolding wholePlaces
+unfolding countedPlaces
 add-triangles c = search needs
 
 mul-triangles-2 : tie.Need-mul-triangles-2
-unfolding wholePlaces
+unfolding countedPlaces
 mul-triangles-2 c = search needs
 
 slice-write-triangles-2 : tie.Need-slice-write-triangles-2
-unfolding wholePlaces
+unfolding countedPlaces
 slice-write-triangles-2 c =
     simp length-set (omega arith)
 
@@ -80,33 +80,33 @@ cast-triangles-3 : tie.Need-cast-triangles-3
 cast-triangles-3 c = search needs
 
 add-triangles-2 : tie.Need-add-triangles-2
-unfolding wholePlaces
+unfolding countedPlaces
 add-triangles-2 c = search needs
 
 mul-triangles-3 : tie.Need-mul-triangles-3
-unfolding wholePlaces
+unfolding countedPlaces
 mul-triangles-3 c = search needs
 
 slice-write-triangles-3 : tie.Need-slice-write-triangles-3
-unfolding wholePlaces
+unfolding countedPlaces
 slice-write-triangles-3 c =
     simp length-set (omega arith)
 
 with-face-requires : tie.Need-with-face-requires
-unfolding wholePlaces
+unfolding countedPlaces
 with-face-requires c κs = search needs
 
 same-length : tie.Need-same-length
 same-length c = search needs
 
 returns-6 : tie.Need-returns-6
-unfolding wholePlaces
+unfolding countedPlaces
 returns-6 c =
     let s = c .before .before .before .before .before .before .before .before in
     rw (c .with-face .ensures)
     (triangle-new (s .args .a) (s .args .b) (s .args .c) (s .args .w) (now (s .args .triangles)) (s .pre .0) (c .before .before .before .before .before .if2 .left)
     (c .before .before .before .before .if3 .left) (c .before .before .before .if4 .left) (not-false _ (c .before .before .before .before .before .before .if1 .left))
-    (omega (arith, c .before .if5 .left, c .before .before .whole-places .ensures)))
+    (omega (arith, c .before .if5 .left, c .before .before .counted-places .ensures)))
 
 pub add-triangle-spec : {M : Type 1} → statement M
 add-triangle-spec =
@@ -116,7 +116,7 @@ add-triangle-spec =
     returns-2
     returns-3
     returns-4
-    whole-places-requires
+    counted-places-requires
     full-requires
     returns-5
     mul-at

@@ -1,2 +1,0 @@
--- What the proofs of `math_matrix` share.
-pub mod Made

@@ -1,2 +1,0 @@
--- Laws that the proofs of `slice_bytes` use.
-pub mod Nan

@@ -1,2 +1,0 @@
--- What the proofs of `transform` share.
-pub mod Loops
