@@ -8,5 +8,7 @@ pub mod SliceLaws
 pub mod WeldLaws
 pub mod SelfSame
 pub mod Welded
-pub mod ClosedLaws
+pub mod EdgeLaws
 pub mod ProperLaws
+pub mod ClosedLaws
+pub mod ClosedExamples
