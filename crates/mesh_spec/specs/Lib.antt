@@ -1,4 +1,5 @@
 -- The Rust's TriMesh as definitions, and the theorems about it.
+pub mod Decides
 pub mod Mesh
 pub mod Closed
 pub mod Slices
