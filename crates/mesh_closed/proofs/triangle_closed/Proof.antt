@@ -1,65 +1,62 @@
+-- `mesh_closed::triangle_closed` meets its contract. Assumes nothing.
+use denote.Ref.{now}
+use mathlib.Core.Path.{ap}
+use mathlib.Core.Bool.{Bool, _&&_}
+use Prim.Native.Nat.{_+_, _*_}
+use Rattle.mesh_spec.specs.Mesh.{distinct}
+use Rattle.mesh_spec.specs.Closed.{below}
+use Rattle.mesh_triples.specs.Triples.{tripleAt}
+use Rattle.mesh_closed.specs.Even.{closedTriangle}
 use borrow.Author.Needs.{needs}
+use native.Mathlib.Omega.{arith}
 use Rattle.mesh_closed.proofs.triangle_closed.Statement.{statement}
 use Rattle.mesh_closed.proofs.triangle_closed.Tie as tie
-use Rattle.mesh_closed.proofs.triangle_closed.Reads as reads
-use Rattle.mesh_closed.proofs.triangle_closed.Lts as lts
-use Rattle.mesh_closed.proofs.triangle_even.Reads as triangle-even-reads
 
--- src/lib.rt:70:14
 mul-at : tie.Need-mul-at
 mul-at c = search needs
 
--- src/lib.rt:71:13
 mul-a : tie.Need-mul-a
 mul-a c = search needs
 
--- src/lib.rt:71:13
 shared-slice-read-a : tie.Need-shared-slice-read-a
 shared-slice-read-a c = search needs
 
--- src/lib.rt:72:15
 add-b : tie.Need-add-b
 add-b c = search needs
 
--- src/lib.rt:72:13
 mul-b : tie.Need-mul-b
 mul-b c = search needs
 
--- src/lib.rt:72:13
 shared-slice-read-b : tie.Need-shared-slice-read-b
 shared-slice-read-b c = search needs
 
--- src/lib.rt:73:15
 add-c : tie.Need-add-c
 add-c c = search needs
 
--- src/lib.rt:73:13
 mul-c : tie.Need-mul-c
 mul-c c = search needs
 
--- src/lib.rt:73:13
 shared-slice-read-c : tie.Need-shared-slice-read-c
 shared-slice-read-c c = search needs
 
--- src/lib.rt:75:19
 cast-there : tie.Need-cast-there
-cast-there c = ?
+cast-there c = omega (arith, c .shared-slice-known4 .given (3 * c .before .before .before .before .args .i))
 
--- src/lib.rt:75:40
 cast-there-2 : tie.Need-cast-there-2
-cast-there-2 c = ?
+cast-there-2 c = omega (arith, c .shared-slice-known4 .given (3 * c .before .before .before .before .args .i + 1))
 
--- src/lib.rt:75:61
 cast-there-3 : tie.Need-cast-there-3
-cast-there-3 c = ?
+cast-there-3 c = omega (arith, c .shared-slice-known4 .given (3 * c .before .before .before .before .args .i + 2))
 
--- src/lib.rt:76:21
 triangle-even-requires : tie.Need-triangle-even-requires
 triangle-even-requires c κs = search needs
 
--- src/lib.rt:66:1
 returns : tie.Need-returns
-returns c = ?
+unfolding closedTriangle
+returns c =
+    let a = c .before .before .before .before .before .args in
+    let t = tripleAt (now (a .t)) (a .i) 0 in
+    ap {B = Bool} (λ (b : Bool). distinct t && below (a .n) t && b) (c .triangle-even .ensures)
 
 pub triangle-closed-spec : {M : Type 1} → statement M
 triangle-closed-spec =
