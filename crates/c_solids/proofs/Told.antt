@@ -5,7 +5,7 @@ use Prim.Native.Nat.{ℕ}
 use lib.Ieee.{Float}
 use Rattle.refusal.specs.Number.{numberOf}
 use Rattle.mesh.specs.declared.Edited.{Edited}
-use Rattle.mesh.specs.Outcome as Edit
+use Rattle.mesh.specs.Outcome.{EditOutcome, GivesEdit}
 use Rattle.tessellate_spec.specs.Outcome.{Outcome}
 use Rattle.tessellate_spec.specs.declared.Tessellated.{Tessellated}
 use Rattle.tessellate_spec.specs.Gives.{Gives}
@@ -15,6 +15,6 @@ pub tells : {o : Outcome} {r : Tessellated} {n : ℕ} {vs : List Float} {ts ws :
     → Gives o r vs ts ws → n ≡ numberOf (r .refusal) → Tells o n (r .mesh .vertices) (r .mesh .triangles) vs ts ws
 tells g e = record { refusal = e ∙ ap numberOf (g .refusal); mesh = g .mesh; vertices = g .vertices; triangles = g .triangles; work = g .work }
 
-pub leaves : {o : Edit.Outcome} {r : Edited} {n : ℕ} {vs : List Float} {ts : List ℕ}
-    → Edit.Gives o r vs ts → n ≡ numberOf (r .refusal) → Leaves o n (r .mesh .vertices) (r .mesh .triangles) vs ts
+pub leaves : {o : EditOutcome} {r : Edited} {n : ℕ} {vs : List Float} {ts : List ℕ}
+    → GivesEdit o r vs ts → n ≡ numberOf (r .refusal) → Leaves o n (r .mesh .vertices) (r .mesh .triangles) vs ts
 leaves g e = record { refusal = e ∙ ap numberOf (g .refusal); mesh = g .mesh; vertices = g .vertices; triangles = g .triangles }

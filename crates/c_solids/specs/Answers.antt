@@ -15,7 +15,7 @@ use Rattle.shape.specs.declared.OwnSystem.the-variants.{Inherited}
 use Rattle.shape.specs.declared.CoordSystem.{CoordSystem}
 use Rattle.shape.specs.declared.CoordSystem.the-variants.{Cartesian}
 use Rattle.mesh_check.specs.declared.TriMesh.{TriMesh}
-use Rattle.mesh.specs.Outcome as Edit
+use Rattle.mesh.specs.Outcome.{EditOutcome}
 use Rattle.tessellate_spec.specs.Outcome.{Outcome, tessellateOf}
 use Rattle.tessellate_spec.specs.Gives.{job}
 
@@ -51,7 +51,7 @@ pub record Tells (o : Outcome) (number nv nt : ℕ) (vs : List Float) (ts ws : L
   pub work : ws ≡ o .work
 
 -- the same of an edit
-pub record Leaves (o : Edit.Outcome) (number nv nt : ℕ) (vs : List Float) (ts : List ℕ) : Type 0 where
+pub record Leaves (o : EditOutcome) (number nv nt : ℕ) (vs : List Float) (ts : List ℕ) : Type 0 where
   pub refusal : number ≡ numberOf (o .refusal)
   pub mesh : counts nv nt ≡ o .state .mesh
   pub vertices : vs ≡ o .state .vertices

@@ -19,7 +19,7 @@ fn box_to(stop: Vec3, first: bool) {
     let mut v = [0.0; 24];
     let mut t = [0u32; 36];
     let m = drawn::draw(shape, 32, 16, &mut v, &mut t);
-    meshes::border(&t, m.triangles);
+    meshes::border(m.vertices, &t, m.triangles);
     meshes::measures(m, &v, &t);
     if first {
         meshes::first(&v, &t);
@@ -58,7 +58,7 @@ fn cylinder(radius: f64, v: &mut [f64], t: &mut [u32]) {
         radius: radius,
     };
     let m = drawn::draw(shape, 3, 2, v, t);
-    meshes::border(t, m.triangles);
+    meshes::border(m.vertices, t, m.triangles);
 }
 
 fn shell(width: f64, v: &mut [f64], t: &mut [u32]) {
@@ -70,7 +70,7 @@ fn shell(width: f64, v: &mut [f64], t: &mut [u32]) {
         shell_width: width,
     };
     let m = drawn::draw(shape, 3, 2, v, t);
-    meshes::border(t, m.triangles);
+    meshes::border(m.vertices, t, m.triangles);
 }
 
 // Writes whether the mesh in v and t is the cylinder of radius 2.5.

@@ -9,13 +9,13 @@ fn open_or_closed(closed: bool) {
     }
 }
 
-// "open" or "closed", of the first k triangles, to the end of the line.
-pub fn border(t: &[u32], k: usize) {
+// "open" or "closed", of a mesh of n vertices with the first k triangles, to the end of the line.
+pub fn border(n: usize, t: &[u32], k: usize) {
     if t.len() / 3 < k {
         figures_text::bytes(b"\n");
         return;
     }
-    open_or_closed(mesh_closed::closed(&t[..3 * k]));
+    open_or_closed(mesh_closed::closed(n, &t[..3 * k]));
 }
 
 pub fn measures(m: TriMesh, v: &[f64], t: &[u32]) {

@@ -9,7 +9,7 @@ use lib.Dec.{T, ltb, eqb, lt→ltb, nltb→le}
 use lib.Ieee.{Float, nan, inf, fin, up, down, below, level, lt, eq, le, isNan}
 use lib.Ieee.Fits.{and-i, eq→eqb}
 use Rattle.ieee.specs.Same.{or-l, or-r, eq-refl}
-use Rattle.ieee.specs.MinMax.{minimum, maximum}
+use Rattle.ieee.specs.Number.{minimum, maximum}
 
 -- ±a ≤ ±b
 at-or-below : (a b : ℕ) → a ≤ b → T (ltb a b || (eqb a b && true))

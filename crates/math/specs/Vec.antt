@@ -5,7 +5,7 @@ use lib.IntN.{pos}
 use lib.Ieee.{Float, fin, binary64, add, sub, mul, div, lt}
 use lib.Ieee.Scale.{finite}
 use Rattle.ieee.specs.Same.{plusZero}
-use Rattle.ieee.specs.MinMax.{minimum, maximum}
+use Rattle.ieee.specs.Number.{minimum, maximum}
 use Rattle.root.specs.Sqrt.{sqrt}
 use Rattle.math.specs.declared.Vec3.{Vec3}
 

@@ -6,22 +6,22 @@ use lib.Dec.{eqb}
 use Rattle.transform.specs.declared.TransformOp.{TransformOp}
 use Rattle.mesh_spec.specs.Mesh.{append, flip}
 use Rattle.mesh_check.specs.State.{State, meshOf, stored, checkOf}
-use Rattle.mesh_append_check.specs.Append.{appendRefusal}
-use Rattle.mesh_transform_check.specs.Transform.{transformed, transformRefusal}
-use Rattle.mesh.specs.Outcome.{Outcome, edited}
+use Rattle.mesh_refusals.specs.Append.{appendRefusal}
+use Rattle.mesh_refusals.specs.Transform.{transformed, transformRefusal}
+use Rattle.mesh.specs.Outcome.{EditOutcome, edited}
 
 -- `append` of the second mesh to the first
-unfoldable pub appendOf : State → State → Outcome
+unfoldable pub appendOf : State → State → EditOutcome
 unfolding appendRefusal edited
 appendOf s o = edited (appendRefusal s o) s (stored (append (meshOf s) (meshOf o)) s)
 
 -- `flip`
-unfoldable pub flipOf : State → Outcome
+unfoldable pub flipOf : State → EditOutcome
 unfolding edited
 flipOf s = edited (checkOf s) s (stored (flip (meshOf s)) s)
 
 -- `transform`; no operations leave the mesh untouched
-unfoldable pub transformOf : List TransformOp → ℕ → Bool → State → Outcome
+unfoldable pub transformOf : List TransformOp → ℕ → Bool → State → EditOutcome
 unfolding transformRefusal transformed edited
 transformOf ops count degrees s =
     edited (transformRefusal ops count degrees s) s (cond (eqb count 0) s (stored (transformed ops count degrees (meshOf s)) s))

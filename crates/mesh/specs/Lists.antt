@@ -11,7 +11,9 @@ use Rattle.transform.specs.declared.TransformOp.{TransformOp}
 use Rattle.transform.specs.Ops.{folded}
 use Rattle.mesh_spec.specs.Mesh.{Mesh, append, flip}
 use Rattle.mesh_spec.specs.Edits.{transform}
-use Rattle.mesh_spec.specs.Closed.{Closed, NoneTwice, AllThere}
+use Rattle.mesh_balance_spec.specs.Count.{EdgesBalance}
+use Rattle.mesh_spec.specs.Closed.{NoneTwice, AllThere, Closed}
+use Rattle.mesh_spec.specs.EdgeLaws.{append-edges, flip-edges, transform-edges}
 use Rattle.mesh_spec.specs.ClosedLaws.{append-closed, flip-closed, transform-closed}
 use Rattle.mesh_spec.specs.ProperLaws.{append-none-twice, flip-none-twice, transform-none-twice, append-all-there, flip-all-there, transform-all-there}
 use Rattle.refusal.specs.declared.Refusal.{Refusal}
@@ -19,10 +21,10 @@ use Rattle.refusal.specs.declared.Refusal.the-variants.{Accepted}
 use Rattle.refusal.specs.Accepted.{isAccepted}
 use Rattle.refusal.specs.Laws.{accepted-is}
 use Rattle.mesh_check.specs.State.{State, meshOf, stored, checkOf}
-use Rattle.mesh.specs.Outcome.{Outcome, edited}
+use Rattle.mesh.specs.Outcome.{EditOutcome, edited}
 use Rattle.mesh_check.specs.StateLaws.{mesh-stored}
-use Rattle.mesh_append_check.specs.Append.{appendRefusal}
-use Rattle.mesh_transform_check.specs.Transform.{transformed, transformRefusal}
+use Rattle.mesh_refusals.specs.Append.{appendRefusal}
+use Rattle.mesh_refusals.specs.Transform.{transformed, transformRefusal}
 use Rattle.mesh.specs.Edits.{appendOf, flipOf, transformOf}
 
 -- ---- the statement
@@ -32,7 +34,8 @@ pub data Call : Type 0 where
   Flip : Call
   Transform : List TransformOp → ℕ → Bool → Call
 
-abbrev pub outcome : Call → State → Outcome
+-- what the call answers, and the state that it leaves
+abbrev pub outcome : Call → State → EditOutcome
 outcome (Append o) s = appendOf s o
 outcome Flip s = flipOf s
 outcome (Transform ops count degrees) s = transformOf ops count degrees s
@@ -57,8 +60,10 @@ AllBring P (c ∷ cs) s = Brings P c s × AllBring P cs (outcome c s .state)
 abbrev pub Kept : (Mesh → Type 0) → State → List Call → Type 0
 Kept P s calls = P (meshOf s) → AllBring P calls s → P (meshOf (after s calls))
 
+-- docs/SCOPE.md, "Lists of calls": closed stays closed, and each of the three properties of a closed mesh stays by itself
 pub record KeptByLists : Type 0 where
   pub closed : (s : State) (calls : List Call) → Kept Closed s calls
+  pub edgesBalance : (s : State) (calls : List Call) → Kept (λ m. EdgesBalance (m .triangles)) s calls
   pub noneTwice : (s : State) (calls : List Call) → Kept NoneTwice s calls
   pub allThere : (s : State) (calls : List Call) → Kept AllThere s calls
 
@@ -112,10 +117,11 @@ by-list : (P : Mesh → Type 0) → KeptByEdits P → (s : State) (calls : List 
 by-list P k s [] start h = start
 by-list P k s (c ∷ cs) start h = by-list P k (outcome c s .state) cs (by-call P k s start c (h .0)) (h .1)
 
--- demand 3, the lists: closed stays closed, and no triangle names a vertex twice or one that isn't there
+-- demand 3, the lists
 pub kept-by-lists : KeptByLists
 kept-by-lists = record {
   closed = by-list Closed (record { appended = append-closed; flipped = flip-closed; transformed = transform-closed });
+  edgesBalance = by-list (λ m. EdgesBalance (m .triangles)) (record { appended = append-edges; flipped = flip-edges; transformed = transform-edges });
   noneTwice = by-list NoneTwice (record { appended = append-none-twice; flipped = flip-none-twice; transformed = transform-none-twice });
   allThere = by-list AllThere (record { appended = append-all-there; flipped = flip-all-there; transformed = transform-all-there });
 }

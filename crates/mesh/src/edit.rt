@@ -1,6 +1,6 @@
 // The edits of a mesh.
 ghost use Rattle.mesh_check.specs.State.{state};
-ghost use Rattle.mesh.specs.Outcome.{Gives};
+ghost use Rattle.mesh.specs.Outcome.{GivesEdit};
 ghost use Rattle.mesh.specs.Edits.{appendOf, flipOf, transformOf};
 use crate::Edited;
 use mesh_check::TriMesh;
@@ -15,7 +15,7 @@ pub fn append(
     other_vertices: &[f64],
     other_triangles: &[u32],
 ) -> Edited
-    ensures { λ r. ⌜ Gives
+    ensures { λ r. ⌜ GivesEdit
         (appendOf (state mesh (now (vertices .entry)) (now (triangles .entry))) (state other (now («other_vertices» .entry)) (now («other_triangles» .entry))))
         r (now (vertices .exit)) (now (triangles .exit)) ⌝ }
 {
@@ -23,7 +23,7 @@ pub fn append(
     let k = mesh.triangles;
     let more_n = other.vertices;
     let more_k = other.triangles;
-    let refusal = mesh_append_check::append_refusal(
+    let refusal = mesh_refusals::append_refusal(
         mesh,
         vertices,
         triangles,
@@ -47,7 +47,7 @@ pub fn append(
 
 // Reverses every triangle.
 pub fn flip(mesh: TriMesh, vertices: &[f64], triangles: &mut [u32]) -> Edited
-    ensures { λ r. ⌜ Gives (flipOf (state mesh (now (vertices .entry)) (now (triangles .entry)))) r (now (vertices .entry)) (now (triangles .exit)) ⌝ }
+    ensures { λ r. ⌜ GivesEdit (flipOf (state mesh (now (vertices .entry)) (now (triangles .entry)))) r (now (vertices .entry)) (now (triangles .exit)) ⌝ }
 {
     let k = mesh.triangles;
     let refusal = mesh_check::check(mesh, vertices, triangles);
@@ -67,11 +67,9 @@ pub fn transform(
     op_count: usize,
     degrees: bool,
 ) -> Edited
-    ensures { λ r. ⌜ Gives (transformOf ops «op_count» degrees (state mesh (now (vertices .entry)) (now (triangles .entry)))) r (now (vertices .exit)) (now (triangles .exit)) ⌝ }
+    ensures { λ r. ⌜ GivesEdit (transformOf ops «op_count» degrees (state mesh (now (vertices .entry)) (now (triangles .entry)))) r (now (vertices .exit)) (now (triangles .exit)) ⌝ }
 {
-    let n = mesh.vertices;
-    let k = mesh.triangles;
-    let refusal = mesh_transform_check::transform_refusal(
+    let refusal = mesh_refusals::transform_refusal(
         mesh,
         vertices,
         triangles,
@@ -86,10 +84,6 @@ pub fn transform(
         return Edited { refusal, mesh };
     }
     let a = transform::fold(ops, op_count, degrees);
-    mesh_move::move_finite(vertices, n, a);
-    if math_matrix_ops::determinant(a) < 0.0 {
-        mesh_write::turn_all(triangles, k);
-        return Edited { refusal, mesh };
-    }
+    mesh_move::move_mesh(mesh, vertices, triangles, a, true);
     Edited { refusal, mesh }
 }

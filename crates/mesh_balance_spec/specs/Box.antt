@@ -6,12 +6,12 @@ use mathlib.Core.List.{List, [], _∷_, _++_, map}
 use Prim.Native.Nat.{ℕ, zero, suc, _+_, _%_, _≤_, _<_}
 use native.Mathlib.Omega.{arith}
 use Rattle.mesh_balance_spec.specs.Soup.{Tri, Weight, rev, round, sum, Balanced, sum-append}
-use Rattle.mesh_balance_spec.specs.Grid.{upto, grid, gridR, path, grid-law, sum-gridR, path-cong}
+use Rattle.mesh_balance_spec.specs.Grid.{upto, cells, cellsTurned, path, cells-law, sum-cellsTurned, path-cong}
 
 module _ {P : Type 0} where
   -- the two faces of an axis: low, at 0, and high, at d
-  abbrev pub faces : ℕ → ℕ → ℕ → (ℕ → ℕ → ℕ → P) → List (Tri P)
-  faces d nu nv f = gridR nu nv (f 0) ++ grid nu nv (f d)
+  abbrev pub axisFaces : ℕ → ℕ → ℕ → (ℕ → ℕ → ℕ → P) → List (Tri P)
+  axisFaces d nu nv f = cellsTurned nu nv (f 0) ++ cells nu nv (f d)
 
   -- the points as each axis sees them: its own coordinate first, then the two of its grid
   abbrev pub axis0 : (ℕ → ℕ → ℕ → P) → ℕ → ℕ → ℕ → P
@@ -23,49 +23,51 @@ module _ {P : Type 0} where
   abbrev pub axis2 : (ℕ → ℕ → ℕ → P) → ℕ → ℕ → ℕ → P
   axis2 g k u v = g u v k
 
+  -- the six faces, the two of an axis after the other
   abbrev pub box : ℕ → ℕ → ℕ → (ℕ → ℕ → ℕ → P) → List (Tri P)
-  box d0 d1 d2 g = faces d0 d1 d2 (axis0 g) ++ faces d1 d2 d0 (axis1 g) ++ faces d2 d0 d1 (axis2 g)
+  box d0 d1 d2 g = axisFaces d0 d1 d2 (axis0 g) ++ axisFaces d1 d2 d0 (axis1 g) ++ axisFaces d2 d0 d1 (axis2 g)
 
-  abbrev pub tube : ℕ → ℕ → ℕ → (ℕ → ℕ → ℕ → P) → List (Tri P)
-  tube d0 d1 d2 g = faces d0 d1 d2 (axis0 g) ++ faces d2 d0 d1 (axis2 g)
+  -- the four of the first and the last axis
+  abbrev pub fourFaces : ℕ → ℕ → ℕ → (ℕ → ℕ → ℕ → P) → List (Tri P)
+  fourFaces d0 d1 d2 g = axisFaces d0 d1 d2 (axis0 g) ++ axisFaces d2 d0 d1 (axis2 g)
 
-  sum-faces : (w : Weight P) (d nu nv : ℕ) (f : ℕ → ℕ → ℕ → P) → sum w (faces d nu nv f) ≡ sum (rev w) (grid nu nv (f 0)) + sum w (grid nu nv (f d))
-  sum-faces w d nu nv f = omega (arith, sum-append w (gridR nu nv (f 0)) (grid nu nv (f d)), sum-gridR w nu nv (f 0))
+  sum-axisFaces : (w : Weight P) (d nu nv : ℕ) (f : ℕ → ℕ → ℕ → P) → sum w (axisFaces d nu nv f) ≡ sum (rev w) (cells nu nv (f 0)) + sum w (cells nu nv (f d))
+  sum-axisFaces w d nu nv f = omega (arith, sum-append w (cellsTurned nu nv (f 0)) (cells nu nv (f d)), sum-cellsTurned w nu nv (f 0))
 
   -- the boundary of both faces of an axis, as one equation
-  faces-law : (d nu nv : ℕ) (f : ℕ → ℕ → ℕ → P) (w : Weight P) →
-      sum w (faces d nu nv f)
+  axisFaces-law : (d nu nv : ℕ) (f : ℕ → ℕ → ℕ → P) (w : Weight P) →
+      sum w (axisFaces d nu nv f)
       + (path (rev w) (λ i. f d i 0) nu + path (rev w) (λ j. f d nu j) nv + path w (λ i. f d i nv) nu + path w (λ j. f d 0 j) nv)
       + (path w (λ i. f 0 i 0) nu + path w (λ j. f 0 nu j) nv + path (rev w) (λ i. f 0 i nv) nu + path (rev w) (λ j. f 0 0 j) nv)
-      ≡ sum (rev w) (faces d nu nv f)
+      ≡ sum (rev w) (axisFaces d nu nv f)
       + (path w (λ i. f d i 0) nu + path w (λ j. f d nu j) nv + path (rev w) (λ i. f d i nv) nu + path (rev w) (λ j. f d 0 j) nv)
       + (path (rev w) (λ i. f 0 i 0) nu + path (rev w) (λ j. f 0 nu j) nv + path w (λ i. f 0 i nv) nu + path w (λ j. f 0 0 j) nv)
-  faces-law d nu nv f w = omega (arith, sum-faces w d nu nv f, sum-faces (rev w) d nu nv f, grid-law nu nv (f 0) w, grid-law nu nv (f d) w)
+  axisFaces-law d nu nv f w = omega (arith, sum-axisFaces w d nu nv f, sum-axisFaces (rev w) d nu nv f, cells-law nu nv (f 0) w, cells-law nu nv (f d) w)
 
   pub box-balanced : (d0 d1 d2 : ℕ) (g : ℕ → ℕ → ℕ → P) → Balanced (box d0 d1 d2 g)
   box-balanced d0 d1 d2 g w =
-      let a = faces d0 d1 d2 (axis0 g) in
-      let b = faces d1 d2 d0 (axis1 g) in
-      let c = faces d2 d0 d1 (axis2 g) in
+      let a = axisFaces d0 d1 d2 (axis0 g) in
+      let b = axisFaces d1 d2 d0 (axis1 g) in
+      let c = axisFaces d2 d0 d1 (axis2 g) in
       omega (
         arith,
-        faces-law d0 d1 d2 (axis0 g) w,
-        faces-law d1 d2 d0 (axis1 g) w,
-        faces-law d2 d0 d1 (axis2 g) w,
+        axisFaces-law d0 d1 d2 (axis0 g) w,
+        axisFaces-law d1 d2 d0 (axis1 g) w,
+        axisFaces-law d2 d0 d1 (axis2 g) w,
         sum-append w (a ++ b) c,
         sum-append (rev w) (a ++ b) c,
         sum-append w a b,
         sum-append (rev w) a b,
       )
 
-  pub tube-balanced : (d0 d1 d2 : ℕ) (g : ℕ → ℕ → ℕ → P) → ((i k : ℕ) → i ≤ d0 → k ≤ d2 → g i d1 k ≡ g i 0 k) → Balanced (tube d0 d1 d2 g)
-  tube-balanced d0 d1 d2 g p w =
-      let a = faces d0 d1 d2 (axis0 g) in
-      let c = faces d2 d0 d1 (axis2 g) in
+  pub fourFaces-balanced : (d0 d1 d2 : ℕ) (g : ℕ → ℕ → ℕ → P) → ((i k : ℕ) → i ≤ d0 → k ≤ d2 → g i d1 k ≡ g i 0 k) → Balanced (fourFaces d0 d1 d2 g)
+  fourFaces-balanced d0 d1 d2 g p w =
+      let a = axisFaces d0 d1 d2 (axis0 g) in
+      let c = axisFaces d2 d0 d1 (axis2 g) in
       omega (
         arith,
-        faces-law d0 d1 d2 (axis0 g) w,
-        faces-law d2 d0 d1 (axis2 g) w,
+        axisFaces-law d0 d1 d2 (axis0 g) w,
+        axisFaces-law d2 d0 d1 (axis2 g) w,
         sum-append w a c,
         sum-append (rev w) a c,
         along w 0 (omega arith),
@@ -91,7 +93,7 @@ module _ {P : Type 0} where
   seen g (suc (suc k)) = axis2 g
 
   abbrev pub boxOf : (ℕ → ℕ) → (ℕ → ℕ → ℕ → P) → List (Tri P)
-  boxOf d g = upto 3 (λ k. faces (d k) (d ((k + 1) % 3)) (d ((k + 2) % 3)) (seen g k))
+  boxOf d g = upto 3 (λ k. axisFaces (d k) (d ((k + 1) % 3)) (d ((k + 2) % 3)) (seen g k))
 
   pub boxOf-balanced : (d : ℕ → ℕ) (g : ℕ → ℕ → ℕ → P) → Balanced (boxOf d g)
   boxOf-balanced d g = box-balanced (d 0) (d 1) (d 2) g

@@ -6,15 +6,16 @@ use Prim.Native.Nat.{ℕ, zero, suc, _+_, _*_, _≤_, _<_}
 use native.Mathlib.Omega.{arith}
 use native.Mathlib.Numerals.{add-one}
 use lib.ListN.{length, length-append}
-use Rattle.mesh_balance_spec.specs.Soup.{Tri, Weight, rev, round, sum, Balanced}
-use Rattle.mesh_balance_spec.specs.Count.{Closed, balanced-closed}
-use Rattle.mesh_balance_spec.specs.Grid.{quad, upto, grid}
+use Rattle.mesh_balance_spec.specs.Soup.{Tri}
+use Rattle.mesh_balance_spec.specs.Grid.{quad, upto, cells}
 
 module _ {P : Type 0} where
+  -- the corners of the triangles, one triangle after the other
   abbrev pub flat : List (Tri P) → List P
   flat [] = []
   flat (t ∷ ts) = t .0 ∷ t .1 ∷ t .2 ∷ flat ts
 
+  -- the triangles in a list of corners; a broken last one is none
   abbrev pub tris : List P → List (Tri P)
   tris [] = []
   tris (a ∷ []) = []
@@ -41,5 +42,5 @@ module _ {P : Type 0} where
   length-upto zero m h e = omega arith
   length-upto (suc n) m h e = omega (arith, length-upto n m h e, e n, length-append (upto n h) (h n))
 
-  pub length-grid : (nu nv : ℕ) (f : ℕ → ℕ → P) → length (grid nu nv f) ≡ 2 * nu * nv
-  length-grid nu nv f = omega (arith, length-upto nu (nv * 2) (λ i. upto nv (λ j. quad (f i j) (f (suc i) j) (f (suc i) (suc j)) (f i (suc j)))) (λ i. length-upto nv 2 (λ j. quad (f i j) (f (suc i) j) (f (suc i) (suc j)) (f i (suc j))) (λ j. refl)))
+  pub length-cells : (nu nv : ℕ) (f : ℕ → ℕ → P) → length (cells nu nv f) ≡ 2 * nu * nv
+  length-cells nu nv f = omega (arith, length-upto nu (nv * 2) (λ i. upto nv (λ j. quad (f i j) (f (suc i) j) (f (suc i) (suc j)) (f i (suc j)))) (λ i. length-upto nv 2 (λ j. quad (f i j) (f (suc i) j) (f (suc i) (suc j)) (f i (suc j))) (λ j. refl)))

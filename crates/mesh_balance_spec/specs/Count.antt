@@ -1,12 +1,11 @@
 -- Soups over numbers: triangles with two equal corners may be dropped, and in a balanced soup each directed edge is used as often as its reverse.
 -- Assumes nothing.
 use mathlib.Core.Path.{_≡_, refl, sym, ap, _∙_, fun-ext}
-use mathlib.Core.Logic.{_⊎_, inl, inr}
 use mathlib.Core.List.{List, [], _∷_, _++_, map}
-use mathlib.Core.Bool.{Bool, true, false, cond, not, _&&_, true≢false}
+use mathlib.Core.Bool.{Bool, true, false, cond, _&&_}
 use Prim.Native.Nat.{ℕ, zero, suc, _+_}
 use native.Mathlib.Omega.{arith}
-use lib.Dec.{eqb, eqb→eq, T}
+use lib.Dec.{eqb}
 use Rattle.mesh_balance_spec.specs.Soup.{Tri, Weight, rev, round, sum, Balanced, Flat, flat-even, mapTri, balanced-map}
 
 module _ {P : Type 0} where
@@ -28,37 +27,16 @@ module _ {P : Type 0} where
     pub balanced-keep : (ts : List (Tri P)) → Balanced ts → Balanced (keepIf k ts)
     balanced-keep ts p w = omega (arith, keep-even w ts, p w)
 
--- three distinct numbers
-abbrev pub distinct : Tri ℕ → Bool
-distinct t = not (eqb (t .0) (t .1)) && not (eqb (t .1) (t .2)) && not (eqb (t .2) (t .0))
-
-eqb-eq : (m n : ℕ) → eqb m n ≡ true → m ≡ n
-eqb-eq m n e = eqb→eq m n (rw e tt)
-
-one-of : (a b c : Bool) → (not a && not b && not c) ≡ false → (a ≡ true) ⊎ ((b ≡ true) ⊎ (c ≡ true))
-one-of true b c e = inl refl
-one-of false true c e = inr (inl refl)
-one-of false false true e = inr (inr refl)
-one-of false false false e = absurd (true≢false e)
-
-not-distinct : (t : Tri ℕ) → distinct t ≡ false → Flat t
-not-distinct t e = elim (one-of (eqb (t .0) (t .1)) (eqb (t .1) (t .2)) (eqb (t .2) (t .0)) e) [
-  | inl p ↦ inl (eqb-eq _ _ p)
-  | inr (inl p) ↦ inr (inl (eqb-eq _ _ p))
-  | inr (inr p) ↦ inr (inr (eqb-eq _ _ p))
-]
-
-pub balanced-distinct : (ts : List (Tri ℕ)) → Balanced ts → Balanced (keepIf distinct ts)
-balanced-distinct = balanced-keep distinct not-distinct
-
--- the directed edges of a soup, and how often one is among them
+-- the directed edges of a soup: triangle (a, b, c) uses (a, b), (b, c) and (c, a) once each
 abbrev pub edges : {P : Type 0} → List (Tri P) → List (P × P)
 edges [] = []
 edges (t ∷ ts) = (t .0, t .1) ∷ (t .1, t .2) ∷ (t .2, t .0) ∷ edges ts
 
+-- 1 where the edge (a, b) is (u, v), else 0
 abbrev pub here : ℕ → ℕ → ℕ → ℕ → ℕ
 here u v a b = cond (eqb a u && eqb b v) 1 0
 
+-- how often the directed edge (u, v) is among the edges
 abbrev pub uses : ℕ → ℕ → List (ℕ × ℕ) → ℕ
 uses u v [] = 0
 uses u v (e ∷ es) = here u v (e .0) (e .1) + uses u v es
@@ -76,13 +54,13 @@ and-comm false false = refl
 pub here-rev : (u v : ℕ) → here v u ≡ rev (here u v)
 here-rev u v = fun-ext (λ a. fun-ext (λ b. ap (λ (c : Bool). cond c 1 0) (and-comm (eqb a v) (eqb b u))))
 
--- each directed edge is used as often as its reverse
-abbrev pub Closed : List (Tri ℕ) → Type 0
-Closed ts = (u v : ℕ) → uses u v (edges ts) ≡ uses v u (edges ts)
+-- docs/SCOPE.md, "Words of demand 3": each directed edge (u, v) is used exactly as often as its reverse (v, u)
+abbrev pub EdgesBalance : List (Tri ℕ) → Type 0
+EdgesBalance ts = (u v : ℕ) → uses u v (edges ts) ≡ uses v u (edges ts)
 
-pub balanced-closed : (ts : List (Tri ℕ)) → Balanced ts → Closed ts
-balanced-closed ts p u v = uses-sum u v ts ∙ p (here u v) ∙ ap (λ w. sum w ts) (sym (here-rev u v)) ∙ sym (uses-sum v u ts)
+pub balanced-edges : (ts : List (Tri ℕ)) → Balanced ts → EdgesBalance ts
+balanced-edges ts p u v = uses-sum u v ts ∙ p (here u v) ∙ ap (λ w. sum w ts) (sym (here-rev u v)) ∙ sym (uses-sum v u ts)
 
--- the corners are numbered by any function, equal numbers or not, and the triangles that lose a corner by that are dropped
-pub welded-closed : {P : Type 0} (f : P → ℕ) (ts : List (Tri P)) → Balanced ts → Closed (keepIf distinct (map (mapTri f) ts))
-welded-closed f ts p = balanced-closed (keepIf distinct (map (mapTri f) ts)) (balanced-distinct (map (mapTri f) ts) (balanced-map f ts p))
+-- the corners are numbered by any function, equal numbers or not, and of the triangles that lose a corner by that any may be dropped
+pub welded-edges : {P : Type 0} (k : Tri ℕ → Bool) → ((t : Tri ℕ) → k t ≡ false → Flat t) → (f : P → ℕ) (ts : List (Tri P)) → Balanced ts → EdgesBalance (keepIf k (map (mapTri f) ts))
+welded-edges k flat f ts p = balanced-edges (keepIf k (map (mapTri f) ts)) (balanced-keep k flat (map (mapTri f) ts) (balanced-map f ts p))

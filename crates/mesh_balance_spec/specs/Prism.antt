@@ -10,12 +10,14 @@ use Rattle.mesh_balance_spec.specs.Soup.{Tri, Weight, rev, round, sum, B
 use Rattle.mesh_balance_spec.specs.Grid.{quad, upto, upto-cong, path, path-cong, strip-law, Bounds}
 
 module _ {C P : Type 0} where
+  -- the cap at lo, the cap turned at hi, and a quad over each edge of the ring r
   abbrev pub prism : (ℕ → C) → ℕ → List (Tri C) → (C → P) → (C → P) → List (Tri P)
   prism r n caps lo hi =
       map (mapTri lo) caps ++ map flip (map (mapTri hi) caps)
       ++ upto n (λ i. quad (lo (r i)) (hi (r i)) (hi (r (suc i))) (lo (r (suc i))))
 
-  path-map : (f : C → P) (w : Weight P) (r : ℕ → C) (n : ℕ) → path w (λ i. f (r i)) n ≡ path (λ u v. w (f u) (f v)) r n
+  -- a path through mapped corners
+  pub path-map : (f : C → P) (w : Weight P) (r : ℕ → C) (n : ℕ) → path w (λ i. f (r i)) n ≡ path (λ u v. w (f u) (f v)) r n
   path-map f w r zero = refl
   path-map f w r (suc n) = omega (arith, path-map f w r n)
 
@@ -51,7 +53,8 @@ module _ {C P : Type 0} where
 abbrev pub cycle : ℕ → Weight ℕ → ℕ
 cycle m w = path w (λ i. i) m + w m 0
 
-cycle-mod : (m : ℕ) (w : Weight ℕ) → path w (λ i. i % suc m) (suc m) ≡ cycle m w
+-- the corners counted round: 0, 1, .. m, 0
+pub cycle-mod : (m : ℕ) (w : Weight ℕ) → path w (λ i. i % suc m) (suc m) ≡ cycle m w
 cycle-mod m w =
     ap₂ (λ (x y : ℕ). x + y) (path-cong w m (λ i. i % suc m) (λ i. i) (λ i l. mod-eq-of-lt (omega arith)))
     (ap₂ w (mod-eq-of-lt (omega arith)) (mod-self (suc m)))

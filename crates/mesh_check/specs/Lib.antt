@@ -1,3 +1,3 @@
--- What the contracts of `mesh_check` cite: a mesh in lent slices, and the checks 8 and 1.
+-- What the contracts of `mesh_check` cite: a mesh in lent slices, and the checks 8, 1 and 7.
 pub mod State
 pub mod StateLaws

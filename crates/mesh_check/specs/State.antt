@@ -1,4 +1,4 @@
--- A mesh record with its two lent slices, the mesh that they hold, and the checks 8 and 1 of docs/SCOPE.md, "Refusals". Definitions only.
+-- A mesh record with its two lent slices, the mesh that they hold, and the checks 8, 1 and 7 of docs/SCOPE.md, "Refusals". Definitions only.
 use mathlib.Core.Bool.{Bool, true, false, not, _||_, cond}
 use mathlib.Core.List.{List, _++_}
 use Prim.Native.Nat.{ℕ, _*_, _≤_, _<_}
@@ -20,6 +20,7 @@ pub record State : Type 0 where
   pub vertices : List Float
   pub triangles : List ℕ
 
+-- the state of a record and two slices
 abbrev pub state : TriMesh → List Float → List ℕ → State
 state m vs ts = record { mesh = m; vertices = vs; triangles = ts }
 
@@ -47,6 +48,10 @@ badMesh s =
 unfoldable pub notFinite : State → Bool
 unfolding every
 notFinite s = not (every finite (take (3 * s .mesh .vertices) (s .vertices)))
+
+-- 7: a mesh has more vertices or triangles than whole places, or more than 4,294,967,295 of either; the slices have nv floats and nt numbers
+unfoldable pub tooFewPlaces : Mesh → ℕ → ℕ → Bool
+tooFewPlaces m nv nt = ltb (countedPlaces nv) (length (m .vertices)) || ltb (countedPlaces nt) (length (m .triangles))
 
 -- the counted places lie in the slices, and the numbers are below the vertex count
 pub record Sound (s : State) : Type 0 where

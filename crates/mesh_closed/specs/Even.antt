@@ -1,13 +1,12 @@
--- Directed edges that are used as often as their reverse, as tests; and what a test of closed meshes answers. Definitions only.
-use mathlib.Core.Path.{_≡_}
-use mathlib.Core.Bool.{Bool, true, _&&_}
+-- The properties of a closed mesh as tests of one triangle after the other. Definitions only.
+use mathlib.Core.Bool.{Bool, _&&_}
 use mathlib.Core.List.{List}
 use Prim.Native.Nat.{ℕ}
 use lib.Dec.{eqb}
 use Rattle.mesh_balance_spec.specs.Soup.{Tri}
 use Rattle.mesh_balance_spec.specs.Count.{edges, uses}
-use Rattle.mesh_spec.specs.Mesh.{Mesh}
-use Rattle.mesh_spec.specs.Closed.{Closed}
+use Rattle.mesh_spec.specs.Mesh.{distinct}
+use Rattle.mesh_spec.specs.Closed.{below}
 
 -- the triangles use (u, v) as often as (v, u)
 abbrev pub evenEdge : List (Tri ℕ) → ℕ → ℕ → Bool
@@ -17,7 +16,6 @@ evenEdge ts u v = eqb (uses u v (edges ts)) (uses v u (edges ts))
 unfoldable pub evenTriangle : List (Tri ℕ) → Tri ℕ → Bool
 evenTriangle ts t = evenEdge ts (t .0) (t .1) && evenEdge ts (t .1) (t .2) && evenEdge ts (t .2) (t .0)
 
--- r says whether the mesh is closed
-pub record ClosedTest (r : Bool) (m : Mesh) : Type 0 where
-  pub yes : r ≡ true → Closed m
-  pub no : Closed m → r ≡ true
+-- t names three different vertices, all below n, and its edges balance
+unfoldable pub closedTriangle : ℕ → List (Tri ℕ) → Tri ℕ → Bool
+closedTriangle n ts t = distinct t && below n t && evenTriangle ts t

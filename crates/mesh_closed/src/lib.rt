@@ -1,13 +1,15 @@
-// Open or closed, by counting: each directed edge of the triangles against its reverse. A slice has three numbers a triangle.
+// Open or closed: the numbers of each triangle, and each directed edge counted against its reverse. A slice has three numbers a triangle.
 ghost use mathlib.Core.Path.{_≡_};
 ghost use Prim.Native.Nat.{_+_, _*_, _≤_};
 ghost use lib.ListN.{length};
 ghost use Rattle.mesh_balance_spec.specs.Soup.{round};
 ghost use Rattle.mesh_balance_spec.specs.Count.{here, edges, uses};
 ghost use Rattle.mesh_balance_spec.specs.Buffer.{tris};
+ghost use Rattle.mesh_spec.specs.Decides.{Decides};
 ghost use Rattle.mesh_spec.specs.Mesh.{Mesh};
+ghost use Rattle.mesh_spec.specs.Closed.{Closed};
 ghost use Rattle.mesh_triples.specs.Triples.{tripleAt};
-ghost use Rattle.mesh_closed.specs.Even.{evenEdge, evenTriangle, ClosedTest};
+ghost use Rattle.mesh_closed.specs.Even.{evenEdge, evenTriangle, closedTriangle};
 
 // 1 where (a, b) is (u, v), else 0.
 fn is_edge(a: u32, b: u32, u: u32, v: u32) -> usize
@@ -60,13 +62,27 @@ fn triangle_even(t: &[u32], i: usize) -> bool
     even(t, a, b) & even(t, b, c) & even(t, c, a)
 }
 
-// Whether a mesh with these triangles is closed: t uses each directed edge as often as its reverse.
-pub fn closed(t: &[u32]) -> bool
-    ensures { λ r. ⌜ ((m : Mesh) → m .triangles ≡ tris (now (t .entry)) → ClosedTest r m) ⌝ }
+// Whether triangle i names three different vertices below n, and t uses each of its edges as often as its reverse.
+fn triangle_closed(n: usize, t: &[u32], i: usize) -> bool
+    requires { ⌜ 3 * i + 3 ≤ length (now t) ⌝ }
+    ensures { λ r. ⌜ r ≡ closedTriangle n (tris (now (t .entry))) (tripleAt (now (t .entry)) i 0) ⌝ }
+{
+    let at = 3 * i;
+    let a = t[at];
+    let b = t[at + 1];
+    let c = t[at + 2];
+    let apart = (a != b) & (b != c) & (a != c);
+    let there = ((a as usize) < n) & ((b as usize) < n) & ((c as usize) < n);
+    apart & there & triangle_even(t, i)
+}
+
+// Whether a mesh of n vertices with the triangles t is closed.
+pub fn closed(n: usize, t: &[u32]) -> bool
+    ensures { λ r. ⌜ ((m : Mesh) → length (m .vertices) ≡ n → m .triangles ≡ tris (now (t .entry)) → Decides r (Closed m)) ⌝ }
 {
     let mut i = 0;
     while i < t.len() / 3 {
-        if !triangle_even(t, i) {
+        if !triangle_closed(n, t, i) {
             return false;
         }
         i += 1;

@@ -9,9 +9,13 @@ ghost use Rattle.mesh_spec.specs.Slices.{points};
 ghost use Rattle.slice.specs.Every.{every};
 ghost use Rattle.mesh_triples.specs.Triples.{eachTo, movedTriple};
 ghost use Rattle.mesh_move_affine.specs.Affine.{FiniteVertices, Tested};
+
+mod under_matrix;
+
 use math_matrix::Mat4;
 use mesh_triples::put_vertex;
 use mesh_triples::vertex;
+pub use under_matrix::move_mesh;
 
 // Whether the first n vertices are finite after the matrix. A point is divided by its fourth coordinate.
 fn stay_finite_divided(vertices: &[f64], n: usize, a: Mat4) -> bool

@@ -9,41 +9,76 @@ use lib.ListN.{length, take, getD}
 use lib.Dec.{T}
 use lib.Ieee.{Float, nan, binary64, add, mul, eq, ne, fits}
 use lib.Ieee.Scale.{finite}
-use Rattle.ieee.specs.Same.{isZero, Same, plusZero, plus-zero, add-same, mul-zero-l, zero-add-same, eq→same, true-T}
+use Rattle.ieee.specs.Number.{isZero, Same, plusZero}
+use Rattle.ieee.specs.Same.{plus-zero, add-same, mul-zero-l, zero-add-same, eq→same, zeros-eq, true-T, T-true}
 use Rattle.math.specs.declared.Vec3.{Vec3}
 use Rattle.math_matrix.specs.declared.Mat4.{Mat4}
 use Rattle.math.specs.Vec.{one}
 use Rattle.math_matrix.specs.Mat.{entry, rowOf, along, overW, transformPoint}
 use Rattle.slice.specs.Every.{every}
+use Rattle.mesh_spec.specs.Decides.{Decides}
 use Rattle.mesh_spec.specs.Slices.{vecOf, vertexAt}
 use Rattle.mesh_triples.specs.Triples.{eachTo, movedTriple}
 use Rattle.mesh_move_affine.specs.Affine.{Affine, affinePoint, Movable}
 use Rattle.slice.specs.EveryLaws.{every-at}
 use Rattle.mesh_triples.proofs.Each.{each-read}
 
+pub and-left : (a b : Bool) → (a && b) ≡ true → a ≡ true
+and-left true b e = refl
+and-left false b e = e
+
+pub and-right : (a b : Bool) → (a && b) ≡ true → b ≡ true
+and-right true b e = e
+and-right false b e = absurd (false≢true e)
+
+pub and-both : (a b : Bool) → a ≡ true → b ≡ true → (a && b) ≡ true
+and-both a b p q = rw (p, q)
+
 -- ---- the tests of the last row
-pub is-zero : (x : Float) → fits binary64 x ≡ true → eq x plusZero ≡ true → T (isZero x)
+is-zero : (x : Float) → fits binary64 x ≡ true → eq x plusZero ≡ true → T (isZero x)
 unfolding fits
 is-zero x f e = elim (eq→same binary64 x plusZero (true-T (fits binary64 x) f) tt (true-T (eq x plusZero) e)) [
   | inl p ↦ subst (λ (y : Float). T (isZero y)) (sym p) tt
   | inr q ↦ q .0
 ]
 
-pub is-one : (x : Float) → fits binary64 x ≡ true → eq x one ≡ true → x ≡ one
+is-one : (x : Float) → fits binary64 x ≡ true → eq x one ≡ true → x ≡ one
 unfolding fits
 is-one x f e = elim (eq→same binary64 x one (true-T (fits binary64 x) f) tt (true-T (eq x one) e)) [
   | inl p ↦ p
   | inr q ↦ absurd (q .1)
 ]
 
+pub zero-test : (x : Float) → fits binary64 x ≡ true → eq x plusZero ≡ isZero x
+zero-test x f = go (eq x plusZero) (isZero x) refl refl
+  where
+    go : (b z : Bool) → eq x plusZero ≡ b → isZero x ≡ z → b ≡ z
+    go true z e h = sym (T-true (isZero x) (is-zero x f e)) ∙ h
+    go false false e h = refl
+    go false true e h = sym e ∙ T-true (eq x plusZero) (zeros-eq x plusZero (true-T (isZero x) h) tt)
+
+pub one-test : (x : Float) → fits binary64 x ≡ true → Decides (eq x one) (x ≡ one)
+unfolding eq
+one-test x f = record { yes = is-one x f; no = λ e. ap {B = Bool} (λ (y : Float). eq y one) e }
+
 -- the four tests of the last row
-pub is-affine : (a : Mat4) (p q r s : Bool) → (p ≡ true → T (isZero (entry a 3 0))) → (q ≡ true → T (isZero (entry a 3 1))) → (r ≡ true → T (isZero (entry a 3 2)))
-    → (s ≡ true → entry a 3 3 ≡ one) → (p && q && r && s) ≡ true → Affine a
-is-affine a true true true true x y z w e = record { x = x refl; y = y refl; z = z refl; w = w refl }
-is-affine a false q r s x y z w e = absurd (false≢true e)
-is-affine a true false r s x y z w e = absurd (false≢true e)
-is-affine a true true false s x y z w e = absurd (false≢true e)
-is-affine a true true true false x y z w e = absurd (false≢true e)
+pub is-affine : (a : Mat4) (p q r s : Bool) → p ≡ isZero (entry a 3 0) → q ≡ isZero (entry a 3 1) → r ≡ isZero (entry a 3 2) → Decides s (entry a 3 3 ≡ one)
+    → Decides (p && q && r && s) (Affine a)
+is-affine a p q r s x y z w = record {
+  yes = λ e.
+      let b = and-left (p && q && r) s e in
+      let d = and-left (p && q) r b in
+      record {
+        x = true-T (isZero (entry a 3 0)) (sym x ∙ and-left p q d);
+        y = true-T (isZero (entry a 3 1)) (sym y ∙ and-right p q d);
+        z = true-T (isZero (entry a 3 2)) (sym z ∙ and-right (p && q) r b);
+        w = w .yes (and-right (p && q && r) s e);
+      };
+  no = λ h.
+      and-both (p && q && r) s
+      (and-both (p && q) r (and-both p q (x ∙ T-true (isZero (entry a 3 0)) (h .x)) (y ∙ T-true (isZero (entry a 3 1)) (h .y))) (z ∙ T-true (isZero (entry a 3 2)) (h .z)))
+      (w .no (h .w));
+}
 
 -- ---- the fourth coordinate
 add-zeros : (x y : Float) → T (isZero x) → T (isZero y) → T (isZero (add binary64 x y))

@@ -7,7 +7,7 @@ use lib.ListN.{length, take}
 use lib.Dec.{T}
 use lib.Ieee.{Float}
 use lib.Ieee.Scale.{finite}
-use Rattle.ieee.specs.Same.{isZero}
+use Rattle.ieee.specs.Number.{isZero}
 use Rattle.math.specs.declared.Vec3.{Vec3}
 use Rattle.math_matrix.specs.declared.Mat4.{Mat4}
 use Rattle.math.specs.Vec.{one, new}

@@ -1,13 +1,12 @@
 // The vertices under a matrix that ends with the row 0 0 0 1: no division, so that several are moved at once.
 ghost use mathlib.Core.Path.{_≡_};
-ghost use mathlib.Core.Bool.{true};
 ghost use mathlib.Core.List.{map};
 ghost use Prim.Native.Nat.{_*_};
 ghost use lib.ListN.{take};
-ghost use lib.Dec.{T};
-ghost use Rattle.ieee.specs.Same.{isZero};
+ghost use Rattle.ieee.specs.Number.{isZero};
 ghost use Rattle.math.specs.Vec.{vFinite, one};
 ghost use Rattle.math_matrix.specs.Mat.{transformPoint};
+ghost use Rattle.mesh_spec.specs.Decides.{Decides};
 ghost use Rattle.mesh_spec.specs.Slices.{points};
 ghost use Rattle.slice.specs.Every.{every};
 ghost use Rattle.mesh_triples.specs.Triples.{eachTo, movedTriple};
@@ -21,21 +20,23 @@ use math_matrix::Mat4;
 use mesh_triples::put_vertex;
 use mesh_triples::vertex;
 
+// Whether x is a zero, of either sign.
 fn is_zero(x: f64) -> bool
-    ensures { λ r. ⌜ (r ≡ true → T (isZero x)) ⌝ }
+    ensures { λ r. ⌜ r ≡ isZero x ⌝ }
 {
     x == 0.0
 }
 
+// Whether x is 1.
 fn is_one(x: f64) -> bool
-    ensures { λ r. ⌜ (r ≡ true → x ≡ one) ⌝ }
+    ensures { λ r. ⌜ Decides r (x ≡ one) ⌝ }
 {
     x == 1.0
 }
 
 // Whether the last row is 0 0 0 1.
 pub fn is_affine(a: Mat4) -> bool
-    ensures { λ r. ⌜ (r ≡ true → Affine a) ⌝ }
+    ensures { λ r. ⌜ Decides r (Affine a) ⌝ }
 {
     let m = a.m;
     is_zero(m[12]) & is_zero(m[13]) & is_zero(m[14]) & is_one(m[15])

@@ -1,4 +1,5 @@
 -- The Rust's TriMesh as definitions, and the theorems about it.
+pub mod Decides
 pub mod Mesh
 pub mod Closed
 pub mod Slices
@@ -8,5 +9,7 @@ pub mod SliceLaws
 pub mod WeldLaws
 pub mod SelfSame
 pub mod Welded
-pub mod ClosedLaws
+pub mod EdgeLaws
 pub mod ProperLaws
+pub mod ClosedLaws
+pub mod ClosedExamples

@@ -3,7 +3,7 @@ use mathlib.Core.List.{List, [], _∷_, map}
 use lib.IntN.{pos}
 use lib.ListN.{getD}
 use lib.Ieee.{Float, binary64, add, div, ofBits, ofInt}
-use Rattle.ieee.specs.MinMax.{absolute}
+use Rattle.ieee.specs.Number.{absolute}
 use Rattle.math.specs.declared.Vec3.{Vec3}
 use Rattle.math.specs.declared.BoundingBox.{BoundingBox}
 use Rattle.math.specs.Vec.{zeroV, vSub, dot, cross, norm}

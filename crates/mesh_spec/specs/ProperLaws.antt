@@ -15,7 +15,7 @@ use Rattle.mesh_balance_spec.specs.Soup.{Tri, mapTri}
 use Rattle.mesh_spec.specs.Mesh.{Mesh, append, flip, distinct}
 use Rattle.mesh_spec.specs.Edits.{moved, transform}
 use Rattle.mesh_spec.specs.Closed.{allOf, below, NoneTwice, AllThere}
-use Rattle.mesh_spec.specs.ClosedLaws.{eqb-shift}
+use Rattle.mesh_spec.specs.EdgeLaws.{eqb-shift}
 
 -- ---- tests of every triangle
 module _ (k : Tri ℕ → Bool) where

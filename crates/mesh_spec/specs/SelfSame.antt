@@ -6,7 +6,8 @@ use lib.Dec.{T, ltb}
 use lib.Ieee.{Float, nan, inf, fin, Format, binary64, isNan, eq, add, sum, round, units, odd, ofBits, ofFields, prec, low, emax}
 use lib.Ieee.Fits.{and-l, and-r, and-i}
 use lib.Ieee.Scale.{finite}
-use Rattle.ieee.specs.Same.{plusZero, eq-refl, true-T, T-true}
+use Rattle.ieee.specs.Number.{plusZero}
+use Rattle.ieee.specs.Same.{eq-refl, true-T, T-true}
 use Rattle.math.specs.declared.Vec3.{Vec3}
 use Rattle.math.specs.Vec.{vFinite}
 use Rattle.math.specs.Laws.{finite-x, finite-y, finite-z}

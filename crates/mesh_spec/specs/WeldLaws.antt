@@ -1,4 +1,4 @@
--- Laws of first sight, of welding, of append and of `flatV`, on the definitions of Mesh.antt and Slices.antt. Assumes nothing.
+-- Laws of first sight, of welding and of append, on the definitions of Mesh.antt. Assumes nothing.
 use mathlib.Core.Path.{_≡_, refl, sym, ap, _∙_}
 use mathlib.Core.Bool.{Bool, true, false, _&&_, cond}
 use mathlib.Core.List.{List, [], _∷_, _++_, map, append-nil}
@@ -8,12 +8,10 @@ use native.Mathlib.Nat.{add-zero, suc-inj, eq-or-lt-of-le, le-of-suc-le-suc, not
 use native.Mathlib.Omega.{arith}
 use lib.ListN.{length, getD, length-append}
 use lib.Dec.{eqb}
-use lib.Ieee.{Float}
 use borrow.Author.Tests.{eq-eqb, ne-eqb}
 use Rattle.slice_law.specs.Bools.{and-assoc, false-unless}
 use Rattle.math.specs.declared.Vec3.{Vec3}
 use Rattle.mesh_balance_spec.specs.Soup.{Tri, mapTri}
-use Rattle.mesh_spec.specs.Slices.{flatV}
 use Rattle.math.specs.Vec.{vFinite}
 use Rattle.mesh_spec.specs.Mesh.{Mesh, noMesh, samePoint, firstSight, withPoint, weldTriangle, weldSoup, everyFinite, append}
 
@@ -122,11 +120,6 @@ everyFinite-append [] ys = refl
 everyFinite-append (t ∷ xs) ys =
     let f : Bool = vFinite (t .0) && vFinite (t .1) && vFinite (t .2) in
     ap (λ (b : Bool). f && b) (everyFinite-append xs ys) ∙ sym (and-assoc f (everyFinite xs) (everyFinite ys))
-
--- ---- slices
-pub flatV-append : (us vs : List Vec3) → flatV (us ++ vs) ≡ flatV us ++ flatV vs
-flatV-append [] vs = refl
-flatV-append (u ∷ us) vs = ap {B = List Float} (λ r. u .x ∷ u .y ∷ u .z ∷ r) (flatV-append us vs)
 
 -- ---- append
 no-shift : (ts : List (Tri ℕ)) → map (mapTri (λ (i : ℕ). i + 0)) ts ≡ ts

@@ -1,6 +1,7 @@
 -- What `fromSoup` gives: a proper mesh for every soup, and a closed one for a finite soup that is balanced after `+ 0.0`. Assumes nothing.
 use mathlib.Core.Path.{_≡_, refl, sym, ap, _∙_, subst}
-use mathlib.Core.Bool.{Bool, true, false, not, _&&_, cond}
+use mathlib.Core.Logic.{_⊎_, inl, inr}
+use mathlib.Core.Bool.{Bool, true, false, not, _&&_, cond, true≢false}
 use mathlib.Core.List.{List, [], _∷_, _++_, map, append-nil, append-assoc}
 use Prim.Native.Nat.{ℕ, _≤_, _<_}
 use native.Mathlib.Nat.{le-trans}
@@ -8,12 +9,11 @@ use native.Mathlib.Omega.{arith}
 use lib.ListN.{length}
 use lib.Dec.{T, eqb, ltb, ltb→lt, lt→ltb}
 use lib.Ieee.Fits.{and-l, and-r, and-i}
-use borrow.Author.Tests.{eqb-true, eqb-false, eq-eqb, ne-eqb}
+use borrow.Author.Tests.{eqb-true}
 use Rattle.ieee.specs.Same.{true-T, T-true}
 use Rattle.math.specs.declared.Vec3.{Vec3}
-use Rattle.mesh_balance_spec.specs.Soup.{Tri, mapTri, Balanced}
-use Rattle.mesh_balance_spec.specs.Count as Count
-use Rattle.mesh_balance_spec.specs.Count.{keepIf, welded-closed}
+use Rattle.mesh_balance_spec.specs.Soup.{Tri, mapTri, Balanced, Flat}
+use Rattle.mesh_balance_spec.specs.Count.{EdgesBalance, keepIf, welded-edges}
 use Rattle.math.specs.Vec.{vFinite}
 use Rattle.mesh_spec.specs.Mesh.{Mesh, noMesh, plusZeroV, samePoint, firstSight, withPoint, distinct, weldTriangle, weldSoup, fromSoup, everyFinite}
 use Rattle.mesh_spec.specs.Closed.{allOf, below, Closed, Proper}
@@ -110,26 +110,28 @@ keeps-number us vs p r f =
     ∙ sight-stays (withPoint us p) (f .rest) p (subst (λ (n : ℕ). n < length (withPoint us p)) (sym (sight-with us p r)) (sight-there us p))
     ∙ sight-with us p r)
 
-eqb-comm : (m n : ℕ) → eqb m n ≡ eqb n m
-eqb-comm m n = go (eqb m n) refl
-  where
-    go : (b : Bool) → eqb m n ≡ b → eqb m n ≡ eqb n m
-    go true e = e ∙ sym (eq-eqb n m (sym (eqb-true m n e)))
-    go false e = e ∙ sym (ne-eqb n m (λ q. eqb-false m n e (sym q)))
+one-of : (a b c : Bool) → (not a && not b && not c) ≡ false → (a ≡ true) ⊎ ((b ≡ true) ⊎ (c ≡ true))
+one-of true b c e = inl refl
+one-of false true c e = inr (inl refl)
+one-of false false true e = inr (inr refl)
+one-of false false false e = absurd (true≢false e)
 
-same-test : (t : Tri ℕ) → distinct t ≡ Count.distinct t
-same-test t = ap (λ (b : Bool). not (eqb (t .0) (t .1)) && not (eqb (t .1) (t .2)) && not b) (eqb-comm (t .0) (t .2))
+-- a triangle that is dropped has two equal numbers
+not-distinct : (t : Tri ℕ) → distinct t ≡ false → Flat t
+not-distinct t e = elim (one-of (eqb (t .0) (t .1)) (eqb (t .1) (t .2)) (eqb (t .0) (t .2)) e) [
+  | inl p ↦ inl (eqb-true _ _ p)
+  | inr (inl p) ↦ inr (inl (eqb-true _ _ p))
+  | inr (inr p) ↦ inr (inr (sym (eqb-true _ _ p)))
+]
 
 offered : (ts ks : List (Tri ℕ)) (t : Tri ℕ) (b : Bool) → cond b (ts ++ (t ∷ [])) ts ++ ks ≡ ts ++ cond b (t ∷ ks) ks
 offered ts ks t true = append-assoc ts (t ∷ []) ks
 offered ts ks t false = refl
 
 -- the triangles after one turn of the loop, and what follows: t is the triangle by the numbers of the turn, u by the final numbers
-turn : (ts ks : List (Tri ℕ)) (t u : Tri ℕ) → t ≡ u → cond (distinct t) (ts ++ (t ∷ [])) ts ++ ks ≡ ts ++ cond (Count.distinct u) (u ∷ ks) ks
+turn : (ts ks : List (Tri ℕ)) (t u : Tri ℕ) → t ≡ u → cond (distinct t) (ts ++ (t ∷ [])) ts ++ ks ≡ ts ++ cond (distinct u) (u ∷ ks) ks
 turn ts ks t u e =
-    offered ts ks t (distinct t)
-    ∙ ap (λ (x : Tri ℕ). ts ++ cond (distinct x) (x ∷ ks) ks) e
-    ∙ ap (λ (b : Bool). ts ++ cond b (u ∷ ks) ks) (same-test u)
+    offered ts ks t (distinct t) ∙ ap (λ (x : Tri ℕ). ts ++ cond (distinct x) (x ∷ ks) ks) e
 
 four : (a b c d : Bool) → (a && b && c && d) ≡ true → (a ≡ true) × (b ≡ true) × (c ≡ true) × (d ≡ true)
 four true true true d h = (refl, refl, refl, h)
@@ -139,7 +141,7 @@ four false b c d h = (h, T-true b (absurd (true-T false h)), T-true c (absurd (t
 
 -- the welded triangles: each corner by its number in the final mesh, and those with two equal numbers dropped
 pub welded-triangles : (S : Mesh) (soup : List (Tri Vec3)) → everyFinite soup ≡ true
-    → weldSoup S soup .triangles ≡ S .triangles ++ keepIf Count.distinct (map (mapTri (firstSight (weldSoup S soup .vertices))) (map (mapTri plusZeroV) soup))
+    → weldSoup S soup .triangles ≡ S .triangles ++ keepIf distinct (map (mapTri (firstSight (weldSoup S soup .vertices))) (map (mapTri plusZeroV) soup))
 unfolding weldSoup weldTriangle everyFinite
 welded-triangles S [] h = sym (append-nil (S .triangles))
 welded-triangles S (t ∷ soup) h =
@@ -161,11 +163,15 @@ welded-triangles S (t ∷ soup) h =
           (f .1)) mid i,
       keeps-number ub vs c (same-self (t .2) (f .2)) last i,
     )) in
-    welded-triangles T₁ soup (f .3) ∙ turn (S .triangles) (keepIf Count.distinct (map (mapTri (firstSight vs)) (map (mapTri plusZeroV) soup)))
+    welded-triangles T₁ soup (f .3) ∙ turn (S .triangles) (keepIf distinct (map (mapTri (firstSight vs)) (map (mapTri plusZeroV) soup)))
     (firstSight us a, firstSight ua b, firstSight ub c) (firstSight vs a, firstSight vs b, firstSight vs c) e
 
--- a finite soup that is balanced after `+ 0.0` gives a closed mesh
-pub fromSoup-closed : (soup : List (Tri Vec3)) → Balanced (map (mapTri plusZeroV) soup) → everyFinite soup ≡ true → Closed (fromSoup soup)
+-- a finite soup that is balanced after `+ 0.0` gives a mesh with balanced edges
+fromSoup-edges : (soup : List (Tri Vec3)) → Balanced (map (mapTri plusZeroV) soup) → everyFinite soup ≡ true → EdgesBalance (fromSoup soup .triangles)
 unfolding fromSoup
-fromSoup-closed soup p e =
-    subst Count.Closed (sym (welded-triangles noMesh soup e)) (welded-closed (firstSight (weldSoup noMesh soup .vertices)) (map (mapTri plusZeroV) soup) p)
+fromSoup-edges soup p e =
+    subst EdgesBalance (sym (welded-triangles noMesh soup e)) (welded-edges distinct not-distinct (firstSight (weldSoup noMesh soup .vertices)) (map (mapTri plusZeroV) soup) p)
+
+-- and a closed mesh
+pub fromSoup-closed : (soup : List (Tri Vec3)) → Balanced (map (mapTri plusZeroV) soup) → everyFinite soup ≡ true → Closed (fromSoup soup)
+fromSoup-closed soup p e = record { edgesBalance = fromSoup-edges soup p e; noneTwice = fromSoup-proper soup .noneTwice; allThere = fromSoup-proper soup .allThere }

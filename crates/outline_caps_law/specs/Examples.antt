@@ -5,7 +5,7 @@ use mathlib.Core.List.{[], _∷_}
 use lib.IntN.{pos}
 use lib.Ieee.{Float, fin, sub, mul, neg, add, sum, round, size, span, climb, units, odd, lt, le, eq, isNan, ofBits, ofFields}
 use lib.Count.{trailingZeros}
-use Rattle.ieee.specs.MinMax.{absolute, maximum}
+use Rattle.ieee.specs.Number.{absolute, maximum}
 use Rattle.outline.specs.Corners.{point, same}
 use Rattle.outline_ears.specs.Ears.{cross, largest, scale, tolerance, inTriangle, blocks, any, blocked, ip, inx, earAt, crossAt, isEar, isFlat, seek, firstEar, firstFlat}
 use Rattle.outline_triangulate.specs.Triangulate.{without, clipped, dropped, fans, fan, fanned, byFound, pass, passes, finished, counting, start, triangulated, triangulatePolygon}

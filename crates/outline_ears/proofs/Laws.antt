@@ -11,7 +11,7 @@ use lib.Seq.{drop-cons, getD-take, length-take-le}
 use lib.Dec.{eqb}
 use lib.Ieee.{Float, nan, neg, le}
 use borrow.Author.Tests.{eq-eqb, ne-eqb}
-use Rattle.ieee.specs.MinMax.{absolute, maximum}
+use Rattle.ieee.specs.Number.{absolute, maximum}
 use Rattle.outline.specs.declared.Point.{Point}
 use Rattle.outline.specs.Corners.{point, same}
 use Rattle.outline_ears.specs.Ears.{cross, largest, inTriangle, blocks, any, blocked, ip, inx, earAt, crossAt, isEar, isFlat, seek, firstEar, firstFlat}

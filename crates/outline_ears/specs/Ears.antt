@@ -6,7 +6,7 @@ use mathlib.Core.List.{List, [], _∷_}
 use lib.ListN.{length, getD}
 use lib.Dec.{eqb}
 use lib.Ieee.{Float, binary64, sub, mul, neg, le, ofBits}
-use Rattle.ieee.specs.MinMax.{absolute, maximum}
+use Rattle.ieee.specs.Number.{absolute, maximum}
 use Rattle.outline.specs.declared.Point.{Point}
 use Rattle.outline.specs.Corners.{point, same}
 use Rattle.outline_ears.specs.declared.Ear.{Ear}

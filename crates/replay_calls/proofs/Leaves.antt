@@ -6,10 +6,10 @@ use lib.Ieee.{Float}
 use Rattle.mesh_check.specs.declared.TriMesh.{TriMesh}
 use Rattle.mesh_check.specs.State.{state}
 use Rattle.mesh.specs.declared.Edited.{Edited}
-use Rattle.mesh.specs.Outcome.{Outcome, Gives}
+use Rattle.mesh.specs.Outcome.{EditOutcome, GivesEdit}
 use Rattle.outline_clip.specs.Clip.{ClipOutcome, clipOutline}
 
-pub leaves : {o : Outcome} {e : Edited} {m : TriMesh} {vs : List Float} {ts : List ℕ} → Gives o e vs ts → m ≡ e .mesh → state m vs ts ≡ o .state
+pub leaves : {o : EditOutcome} {e : Edited} {m : TriMesh} {vs : List Float} {ts : List ℕ} → GivesEdit o e vs ts → m ≡ e .mesh → state m vs ts ≡ o .state
 leaves g h i = record { mesh = (h ∙ g .mesh) i; vertices = g .vertices i; triangles = g .triangles i }
 
 pub leaves-slice : (v : List Float) (k n : ℕ) (o : ClipOutcome) → o ≡ clipOutline v k → k ≡ n → o .slice ≡ clipOutline v n .slice

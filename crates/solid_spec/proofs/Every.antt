@@ -11,7 +11,7 @@ use lib.Ieee.Fits.{and-l, and-r}
 use Rattle.ieee.specs.Same.{true-T}
 use Rattle.mesh_balance_spec.specs.Soup.{Tri, rev, Balanced, mapTri}
 use Rattle.mesh_balance_spec.specs.Grid as Plain
-use Rattle.mesh_balance_spec.specs.Grid.{quad, upto, upto-cong, grid₁-grid, gridR₁-gridR, sum-gridR}
+use Rattle.mesh_balance_spec.specs.Grid.{quad, upto, upto-cong, cells₁-cells, cellsTurned₁-cellsTurned, sum-cellsTurned}
 use Rattle.math.specs.Vec.{vFinite}
 use Rattle.mesh_spec.specs.Mesh.{everyFinite}
 use Rattle.solid_spec.specs.Grid.{Soup, grid}
@@ -44,35 +44,35 @@ module _ {P : Type 0} where
       at-most l = omega arith
 
   -- the two corners of a cell at its side j
-  every-plain : (Q : P → Type 0) (nu nv : ℕ) (f : ℕ → ℕ → P) → Every Q (Plain.grid nu nv f) → (i j : ℕ) → i < nu → j < nv → Q (f i j) × Q (f (suc i) j)
+  every-plain : (Q : P → Type 0) (nu nv : ℕ) (f : ℕ → ℕ → P) → Every Q (Plain.cells nu nv f) → (i j : ℕ) → i < nu → j < nv → Q (f i j) × Q (f (suc i) j)
   every-plain Q nu nv f h i j k l =
       let c = every-upto Q nv (λ j. quad (f i j) (f (suc i) j) (f (suc i) (suc j)) (f i (suc j)))
       (every-upto Q nu (λ i. upto nv (λ j. quad (f i j) (f (suc i) j) (f (suc i) (suc j)) (f i (suc j)))) h i k) j l in
       (c .0, c .1)
 
-  every-turned : (Q : P → Type 0) (nu nv : ℕ) (f : ℕ → ℕ → P) → Every Q (Plain.gridR nu nv f) → (i j : ℕ) → i < nu → j < nv → Q (f i j) × Q (f (suc i) j)
+  every-turned : (Q : P → Type 0) (nu nv : ℕ) (f : ℕ → ℕ → P) → Every Q (Plain.cellsTurned nu nv f) → (i j : ℕ) → i < nu → j < nv → Q (f i j) × Q (f (suc i) j)
   every-turned Q nu nv f h i j k l =
       let c = every-upto Q nv (λ j. quad (f i j) (f i (suc j)) (f (suc i) (suc j)) (f (suc i) j))
       (every-upto Q nu (λ i. upto nv (λ j. quad (f i j) (f i (suc j)) (f (suc i) (suc j)) (f (suc i) j))) h i k) j l in
       (c .0, c .3 .2)
 
   -- `grid` as balance has it
-  pub grid-plain : (nu nv : ℕ) (f : ℕ → ℕ → P) → grid nu nv false f ≡ Plain.grid nu nv f
+  pub grid-plain : (nu nv : ℕ) (f : ℕ → ℕ → P) → grid nu nv false f ≡ Plain.cells nu nv f
   unfolding grid
-  grid-plain nu nv f = grid₁-grid nu nv f
+  grid-plain nu nv f = cells₁-cells nu nv f
 
-  pub grid-turned : (nu nv : ℕ) (f : ℕ → ℕ → P) → grid nu nv true f ≡ Plain.gridR nu nv f
+  pub grid-turned : (nu nv : ℕ) (f : ℕ → ℕ → P) → grid nu nv true f ≡ Plain.cellsTurned nu nv f
   unfolding grid
-  grid-turned nu nv f = gridR₁-gridR nu nv f
+  grid-turned nu nv f = cellsTurned₁-cellsTurned nu nv f
 
   pub every-grid : (Q : P → Type 0) (nu nv : ℕ) (flip : Bool) (f : ℕ → ℕ → P) → Every Q (grid nu nv flip f) → (i j : ℕ) → i < nu → j < nv → Q (f i j) × Q (f (suc i) j)
   every-grid Q nu nv false f h = every-plain Q nu nv f (subst (Every Q) (grid-plain nu nv f) h)
   every-grid Q nu nv true f h = every-turned Q nu nv f (subst (Every Q) (grid-turned nu nv f) h)
 
   -- a grid is balanced either way round
-  pub balanced-grid : (nu nv : ℕ) (flip : Bool) (f : ℕ → ℕ → P) → Balanced (Plain.grid nu nv f) → Balanced (grid nu nv flip f)
+  pub balanced-grid : (nu nv : ℕ) (flip : Bool) (f : ℕ → ℕ → P) → Balanced (Plain.cells nu nv f) → Balanced (grid nu nv flip f)
   balanced-grid nu nv false f b = rw (grid-plain nu nv f) b
-  balanced-grid nu nv true f b = rw (grid-turned nu nv f) (λ w. omega (arith, sum-gridR w nu nv f, sum-gridR (rev w) nu nv f, b w))
+  balanced-grid nu nv true f b = rw (grid-turned nu nv f) (λ w. omega (arith, sum-cellsTurned w nu nv f, sum-cellsTurned (rev w) nu nv f, b w))
 
 -- every point is finite
 abbrev pub Sound : Soup → Type 0
@@ -107,14 +107,14 @@ module _ {P Q : Type 0} (h : P → Q) where
   map-upto (suc n) g = map-append (upto n g) (g n) ∙ ap (λ (r : List (Tri Q)). r ++ map (mapTri h) (g n)) (map-upto n g)
 
   -- through the grid, to points that equal those of G
-  pub map-plain : (nu nv : ℕ) (f : ℕ → ℕ → P) (G : ℕ → ℕ → Q) → ((i j : ℕ) → h (f i j) ≡ G i j) → map (mapTri h) (grid nu nv false f) ≡ Plain.grid nu nv G
+  pub map-plain : (nu nv : ℕ) (f : ℕ → ℕ → P) (G : ℕ → ℕ → Q) → ((i j : ℕ) → h (f i j) ≡ G i j) → map (mapTri h) (grid nu nv false f) ≡ Plain.cells nu nv G
   map-plain nu nv f G e =
       ap (map (mapTri h)) (grid-plain nu nv f)
       ∙ map-upto nu (λ i. upto nv (λ j. quad (f i j) (f (suc i) j) (f (suc i) (suc j)) (f i (suc j))))
       ∙ upto-cong nu _ _ (λ i l. map-upto nv (λ j. quad (f i j) (f (suc i) j) (f (suc i) (suc j)) (f i (suc j)))
       ∙ upto-cong nv _ _ (λ j l. λ t. quad (e i j t) (e (suc i) j t) (e (suc i) (suc j) t) (e i (suc j) t)))
 
-  pub map-turned : (nu nv : ℕ) (f : ℕ → ℕ → P) (G : ℕ → ℕ → Q) → ((i j : ℕ) → h (f i j) ≡ G i j) → map (mapTri h) (grid nu nv true f) ≡ Plain.gridR nu nv G
+  pub map-turned : (nu nv : ℕ) (f : ℕ → ℕ → P) (G : ℕ → ℕ → Q) → ((i j : ℕ) → h (f i j) ≡ G i j) → map (mapTri h) (grid nu nv true f) ≡ Plain.cellsTurned nu nv G
   map-turned nu nv f G e =
       ap (map (mapTri h)) (grid-turned nu nv f)
       ∙ map-upto nu (λ i. upto nv (λ j. quad (f i j) (f i (suc j)) (f (suc i) (suc j)) (f (suc i) j)))

@@ -12,7 +12,7 @@ use Rattle.math.specs.declared.Vec3.{Vec3}
 use Rattle.math.specs.Vec.{new, axis, withAxis}
 use Rattle.mesh_balance_spec.specs.Soup.{Tri, mapTri}
 use Rattle.mesh_balance_spec.specs.Box as Box
-use Rattle.mesh_balance_spec.specs.Box.{box, tube, axis0, axis1, axis2, box-balanced, tube-balanced}
+use Rattle.mesh_balance_spec.specs.Box.{box, fourFaces, axis0, axis1, axis2, box-balanced, fourFaces-balanced}
 use Rattle.mesh_spec.specs.Mesh.{plusZeroV}
 use Rattle.solid_spec.specs.Grid.{Soup, grid}
 use Rattle.solid_spec.specs.ParamBox.{three, coord, facePoint, faceAt, face, faces, paramBox}
@@ -32,7 +32,7 @@ Shows m = (p : Vec3) → FiniteV (m p) → FiniteV p
 -- both faces of an axis
 two-faces : {P Q : Type 0} (h : P → Q) (d nu nv : ℕ) (f g : ℕ → ℕ → P) (G : ℕ → ℕ → ℕ → Q)
     → ((i j : ℕ) → h (f i j) ≡ G 0 i j) → ((i j : ℕ) → h (g i j) ≡ G d i j)
-    → map (mapTri h) (grid nu nv true f ++ grid nu nv false g) ≡ Box.faces d nu nv G
+    → map (mapTri h) (grid nu nv true f ++ grid nu nv false g) ≡ Box.axisFaces d nu nv G
 two-faces h d nu nv f g G p q =
     map-append h (grid nu nv true f) (grid nu nv false g)
     ∙ ap₂ (λ (x y : List (Tri _)). x ++ y) (map-turned h nu nv f (G 0) p) (map-plain h nu nv g (G d) q)
@@ -45,19 +45,19 @@ module _ (lo hi : Vec3) (d0 d1 d2 : ℕ) (m : Vec3 → Vec3) (resp : Respects m)
   module _ (a0 : Axis (lo .x) d0) (a1 : Axis (lo .y) d1) (a2 : Axis (lo .z) d2)
       (s0 : T (finite (sub binary64 (hi .x) (lo .x)))) (s1 : T (finite (sub binary64 (hi .y) (lo .y)))) (s2 : T (finite (sub binary64 (hi .z) (lo .z))))
       (n0 : eq (hi .x) (lo .x) ≡ false) (n2 : eq (hi .z) (lo .z) ≡ false) where
-    faces0 : (w : Bool) → map (mapTri plusZeroV) (faces lo hi (three d0 d1 d2) (three false w false) m 0) ≡ Box.faces d0 d1 d2 (axis0 (corner w))
+    faces0 : (w : Bool) → map (mapTri plusZeroV) (faces lo hi (three d0 d1 d2) (three false w false) m 0) ≡ Box.axisFaces d0 d1 d2 (axis0 (corner w))
     unfolding faces face facePoint withAxis axis
     faces0 w = rw n0 (two-faces plusZeroV d0 d1 d2 _ _ (axis0 (corner w))
         (λ i j. plusZeroV-same _ _ (resp _ _ (record { x = coord-start (lo .x) (hi .x) d0 false a0 s0; y = inl refl; z = inl refl })))
         (λ i j. ap (λ (x : Float). plusZeroV (m (new x (coord (lo .y) (hi .y) d1 w i) (coord (lo .z) (hi .z) d2 false j)))) (sym (coord-end (lo .x) (hi .x) d0))))
 
-    faces1 : eq (hi .y) (lo .y) ≡ false → map (mapTri plusZeroV) (faces lo hi (three d0 d1 d2) (three false false false) m 1) ≡ Box.faces d1 d2 d0 (axis1 (corner false))
+    faces1 : eq (hi .y) (lo .y) ≡ false → map (mapTri plusZeroV) (faces lo hi (three d0 d1 d2) (three false false false) m 1) ≡ Box.axisFaces d1 d2 d0 (axis1 (corner false))
     unfolding faces face facePoint withAxis axis
     faces1 n1 = rw n1 (two-faces plusZeroV d1 d2 d0 _ _ (axis1 (corner false))
         (λ i j. plusZeroV-same _ _ (resp _ _ (record { x = inl refl; y = coord-start (lo .y) (hi .y) d1 false a1 s1; z = inl refl })))
         (λ i j. ap (λ (y : Float). plusZeroV (m (new (coord (lo .x) (hi .x) d0 false j) y (coord (lo .z) (hi .z) d2 false i)))) (sym (coord-end (lo .y) (hi .y) d1))))
 
-    faces2 : (w : Bool) → map (mapTri plusZeroV) (faces lo hi (three d0 d1 d2) (three false w false) m 2) ≡ Box.faces d2 d0 d1 (axis2 (corner w))
+    faces2 : (w : Bool) → map (mapTri plusZeroV) (faces lo hi (three d0 d1 d2) (three false w false) m 2) ≡ Box.axisFaces d2 d0 d1 (axis2 (corner w))
     unfolding faces face facePoint withAxis axis
     faces2 w = rw n2 (two-faces plusZeroV d2 d0 d1 _ _ (axis2 (corner w))
         (λ i j. plusZeroV-same _ _ (resp _ _ (record { x = inl refl; y = inl refl; z = coord-start (lo .z) (hi .z) d2 false a2 s2 })))
@@ -74,7 +74,7 @@ module _ (lo hi : Vec3) (d0 d1 d2 : ℕ) (m : Vec3 → Vec3) (resp : Respects m)
         map-append plusZeroV (F 0 ++ F 1) (F 2)
         ∙ ap₂ (λ (x y : Soup). x ++ y) (map-append plusZeroV (F 0) (F 1) ∙ ap₂ (λ (x y : Soup). x ++ y) (faces0 false) (faces1 n1)) (faces2 false)
 
-    four-tube : map (mapTri plusZeroV) (paramBox lo hi (three d0 d1 d2) (three false true false) m) ≡ tube d0 d1 d2 (corner true)
+    four-tube : map (mapTri plusZeroV) (paramBox lo hi (three d0 d1 d2) (three false true false) m) ≡ fourFaces d0 d1 d2 (corner true)
     unfolding paramBox
     four-tube =
         let F = faces lo hi (three d0 d1 d2) (three false true false) m in
@@ -86,7 +86,7 @@ module _ (lo hi : Vec3) (d0 d1 d2 : ℕ) (m : Vec3 → Vec3) (resp : Respects m)
     six-closes n1 = rw (six-box n1) (box-balanced d0 d1 d2 (corner false))
 
     four-closes : Closes (paramBox lo hi (three d0 d1 d2) (three false true false) m)
-    four-closes = rw four-tube (tube-balanced d0 d1 d2 (corner true) (λ i k p q. plusZeroV-same _ _ (resp _ _ (record {
+    four-closes = rw four-tube (fourFaces-balanced d0 d1 d2 (corner true) (λ i k p q. plusZeroV-same _ _ (resp _ _ (record {
       x = inl refl;
       y = rw (coord-wrap (lo .y) (hi .y) d1) (coord-start (lo .y) (hi .y) d1 true a1 s1);
       z = inl refl;

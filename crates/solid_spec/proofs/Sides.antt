@@ -1,5 +1,5 @@
 -- The sides of an outline, over any points: a ring of cells round its corners, at n + 1 levels. With the caps, or where the last level is the first, it is balanced.
-use mathlib.Core.Path.{_≡_, refl, sym, ap, ap₂, _∙_, fun-ext}
+use mathlib.Core.Path.{_≡_, refl, sym, ap, _∙_, fun-ext}
 use mathlib.Core.List.{List, [], _∷_, _++_}
 use mathlib.Core.Bool.{true, false}
 use Prim.Native.Nat.{ℕ, zero, suc, _+_, _%_}
@@ -7,8 +7,8 @@ use native.Mathlib.Nat.{zero-mod, mod-self, mod-eq-of-lt}
 use native.Mathlib.Omega.{arith}
 use Rattle.mesh_balance_spec.specs.Soup.{Tri, Weight, rev, sum, Balanced, sum-append}
 use Rattle.mesh_balance_spec.specs.Grid as Plain
-use Rattle.mesh_balance_spec.specs.Grid.{quad, upto, upto-cong, path, path-cong, grid-law, sum-gridR, Bounds}
-use Rattle.mesh_balance_spec.specs.Prism.{cycle}
+use Rattle.mesh_balance_spec.specs.Grid.{quad, upto, upto-cong, path, path-cong, cells-law, sum-cellsTurned, Bounds}
+use Rattle.mesh_balance_spec.specs.Prism.{cycle, path-map, cycle-mod}
 use Rattle.solid_spec.specs.Grid.{grid}
 use Rattle.solid_spec.specs.Outline.{caps}
 use Rattle.solid_spec.proofs.Every.{grid-plain, grid-turned}
@@ -36,15 +36,6 @@ module _ {P : Type 0} where
   sum-caps a b w [] = refl
   sum-caps a b w (t ∷ ts) = omega (arith, sum-caps a b w ts)
 
-  path-map : (f : ℕ → P) (w : Weight P) (r : ℕ → ℕ) (n : ℕ) → path w (λ i. f (r i)) n ≡ path (λ u v. w (f u) (f v)) r n
-  path-map f w r zero = refl
-  path-map f w r (suc n) = omega (arith, path-map f w r n)
-
-cycle-mod : (m : ℕ) (w : Weight ℕ) → path w (λ i. i % suc m) (suc m) ≡ cycle m w
-cycle-mod m w =
-    ap₂ (λ (x y : ℕ). x + y) (path-cong w m (λ i. i % suc m) (λ i. i) (λ i l. mod-eq-of-lt (omega arith)))
-    (ap₂ w (mod-eq-of-lt (omega arith)) (mod-self (suc m)))
-
 module _ {P : Type 0} (m n : ℕ) (at : ℕ → ℕ → P) where
   meets : (k : ℕ) → ring (suc m) at (suc m) k ≡ ring (suc m) at 0 k
   meets k = ap (λ (i : ℕ). at i k) (mod-self (suc m) ∙ sym (zero-mod (suc m)))
@@ -54,12 +45,12 @@ module _ {P : Type 0} (m n : ℕ) (at : ℕ → ℕ → P) where
 
   -- the boundary of the ring of cells: the ring of corners of the first level, and that of the last turned round
   ring-law : (w : Weight P) →
-      sum w (Plain.grid (suc m) n (ring (suc m) at)) + cycle m (λ u v. w (at v 0) (at u 0)) + cycle m (λ u v. w (at u n) (at v n))
-      ≡ sum (rev w) (Plain.grid (suc m) n (ring (suc m) at)) + cycle m (λ u v. w (at u 0) (at v 0)) + cycle m (λ u v. w (at v n) (at u n))
+      sum w (Plain.cells (suc m) n (ring (suc m) at)) + cycle m (λ u v. w (at v 0) (at u 0)) + cycle m (λ u v. w (at u n) (at v n))
+      ≡ sum (rev w) (Plain.cells (suc m) n (ring (suc m) at)) + cycle m (λ u v. w (at u 0) (at v 0)) + cycle m (λ u v. w (at v n) (at u n))
   ring-law w =
       omega (
         arith,
-        grid-law (suc m) n (ring (suc m) at) w,
+        cells-law (suc m) n (ring (suc m) at) w,
         level w 0,
         level (rev w) 0,
         level w n,
@@ -74,8 +65,8 @@ module _ {P : Type 0} (m n : ℕ) (at : ℕ → ℕ → P) where
       (λ w. omega (
         arith,
         ring-law w,
-        sum-gridR w (suc m) n (ring (suc m) at),
-        sum-gridR (rev w) (suc m) n (ring (suc m) at),
+        sum-cellsTurned w (suc m) n (ring (suc m) at),
+        sum-cellsTurned (rev w) (suc m) n (ring (suc m) at),
         ap (λ (g : ℕ → P). cycle m (λ u v. w (g u) (g v))) (fun-ext e),
         ap (λ (g : ℕ → P). cycle m (λ u v. w (g v) (g u))) (fun-ext e),
       ))
@@ -86,10 +77,10 @@ module _ {P : Type 0} (m n : ℕ) (at : ℕ → ℕ → P) where
         (λ w. omega (
           arith,
           ring-law w,
-          sum-gridR w (suc m) n (ring (suc m) at),
-          sum-gridR (rev w) (suc m) n (ring (suc m) at),
-          sum-append w (Plain.gridR (suc m) n (ring (suc m) at)) (caps (λ v. at v 0) (λ v. at v n) ts),
-          sum-append (rev w) (Plain.gridR (suc m) n (ring (suc m) at)) (caps (λ v. at v 0) (λ v. at v n) ts),
+          sum-cellsTurned w (suc m) n (ring (suc m) at),
+          sum-cellsTurned (rev w) (suc m) n (ring (suc m) at),
+          sum-append w (Plain.cellsTurned (suc m) n (ring (suc m) at)) (caps (λ v. at v 0) (λ v. at v n) ts),
+          sum-append (rev w) (Plain.cellsTurned (suc m) n (ring (suc m) at)) (caps (λ v. at v 0) (λ v. at v n) ts),
           sum-caps (λ v. at v 0) (λ v. at v n) w ts,
           sum-caps (λ v. at v 0) (λ v. at v n) (rev w) ts,
           bound (λ u v. w (at u 0) (at v 0)),
@@ -101,8 +92,8 @@ module _ {P : Type 0} (m n : ℕ) (at : ℕ → ℕ → P) where
         (λ w. omega (
           arith,
           ring-law w,
-          sum-append w (caps (λ v. at v n) (λ v. at v 0) ts) (Plain.grid (suc m) n (ring (suc m) at)),
-          sum-append (rev w) (caps (λ v. at v n) (λ v. at v 0) ts) (Plain.grid (suc m) n (ring (suc m) at)),
+          sum-append w (caps (λ v. at v n) (λ v. at v 0) ts) (Plain.cells (suc m) n (ring (suc m) at)),
+          sum-append (rev w) (caps (λ v. at v n) (λ v. at v 0) ts) (Plain.cells (suc m) n (ring (suc m) at)),
           sum-caps (λ v. at v n) (λ v. at v 0) w ts,
           sum-caps (λ v. at v n) (λ v. at v 0) (rev w) ts,
           bound (λ u v. w (at u 0) (at v 0)),

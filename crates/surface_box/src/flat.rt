@@ -3,7 +3,7 @@ ghost use mathlib.Core.Path.{_≡_};
 ghost use mathlib.Core.Bool.{false, not};
 ghost use Prim.Native.Nat.{_<_};
 ghost use Rattle.math.specs.Vec.{axis};
-ghost use Rattle.mesh_balance_spec.specs.Grid.{turned};
+ghost use Rattle.mesh_balance_spec.specs.Grid.{quadTurned};
 ghost use Rattle.solid_spec.specs.declared.Chart.the-variants.{Cartesian};
 ghost use Rattle.solid_spec.specs.ParamBox as Box;
 ghost use Rattle.solid_spec.specs.ParamBox.{three};
@@ -22,7 +22,7 @@ fn first_line(lo: Vec3, hi: Vec3, k: usize) -> f64
 
 // A face's points in the order of its quad: on the low side the other way round.
 fn in_order(side: bool, a: Vec3, b: Vec3, c: Vec3, d: Vec3) -> Four
-    ensures { λ r. ⌜ quadOf r ≡ turned (not side) a b c d ⌝ }
+    ensures { λ r. ⌜ quadOf r ≡ quadTurned (not side) a b c d ⌝ }
 {
     if side {
         Four { a, b, c, d }

@@ -1,6 +1,6 @@
 -- Demand 3 of the mission, whole and as one theorem, on the definitions that the contracts of `tessellate`, `append`, `flip` and `transform` cite. Assumes nothing.
 -- The words are in specs/Words.antt: `Solid` has the conditions, a line for each shape.
-use mathlib.Core.Path.{refl, sym, subst}
+use mathlib.Core.Path.{sym, subst}
 use mathlib.Core.Bool.{Bool, true, false, cond}
 use mathlib.Core.List.{List, [], _∷_}
 use Prim.Native.Nat.{ℕ}
@@ -13,7 +13,7 @@ use Rattle.mesh_spec.specs.Mesh.{Mesh, noMesh, append, flip, fromSoup, appendPa
 use Rattle.mesh_spec.specs.Edits.{transform}
 use Rattle.mesh_spec.specs.Measures.{signedVolume}
 use Rattle.mesh_spec.specs.Closed.{allOf, Closed, NoneTwice, AllThere}
-use Rattle.mesh_spec.specs.ClosedLaws.{append-closed, flip-closed, transform-closed}
+use Rattle.mesh_spec.specs.ClosedLaws.{no-mesh-closed, append-closed, flip-closed, transform-closed}
 use Rattle.mesh_spec.specs.ProperLaws.{append-none-twice, flip-none-twice, transform-none-twice, append-all-there, flip-all-there, transform-all-there}
 use Rattle.mesh_spec.specs.Welded.{fromSoup-proper}
 use Rattle.solid_spec.specs.Grid.{Soup}
@@ -32,13 +32,13 @@ use Rattle.tessellate_law.specs.PartsClosed.{parts-balanced, parts-close
 -- ---- the statement
 
 pub record Demand3 : Type 0 where
-  -- an accepted solid of the list is closed: each directed edge is used exactly as often as its reverse
+  -- an accepted solid of the list is closed: its edges balance, no triangle names one vertex twice or a vertex that isn't there
   pub closed : (j : Job) (nv nt nw : ℕ) → Accepts j nv nt nw → FitsJob j → Solid (j .shape) (j .list) → Closed (given j nv nt nw)
   -- of every accepted shape, no triangle names one vertex twice
   pub noneTwice : (j : Job) (nv nt nw : ℕ) → Accepts j nv nt nw → NoneTwice (given j nv nt nw)
   -- nor a vertex that isn't there
   pub allThere : (j : Job) (nv nt nw : ℕ) → Accepts j nv nt nw → AllThere (given j nv nt nw)
-  -- any list of appends, flips and transforms keeps each of the three, for any start
+  -- any list of appends, flips and transforms keeps a mesh closed, and keeps each of the three properties by itself, for any start
   pub lists : KeptByLists
   -- so an accepted solid of the list is closed after any list of calls in which each mesh appended is closed
   pub closedAfter : (j : Job) (nv nt nw : ℕ) → Accepts j nv nt nw → FitsJob j → Solid (j .shape) (j .list)
@@ -109,7 +109,7 @@ is-closed j nv nt nw h f s =
     let cyl = cylindrical (shapeCs (j .shape) (j .own) (j .default)) in
     let b = parts-balanced cyl (j .list) (j .options) (d .segments-most) (f .list) (j .shape) (f .shape) (d .shape-finite) (d .list-finite) s in
     subst Closed (sym (given-final j nv nt nw h))
-    (final Closed (record { empty = λ u v. refl; appended = append-closed; flipped = flip-closed; transformed = transform-closed }) j (parts-closed (jobParts j) b (a .soup)))
+    (final Closed (record { empty = no-mesh-closed; appended = append-closed; flipped = flip-closed; transformed = transform-closed }) j (parts-closed (jobParts j) b (a .soup)))
 
 is-none-twice : (j : Job) (nv nt nw : ℕ) → Accepts j nv nt nw → NoneTwice (given j nv nt nw)
 unfolding allOf

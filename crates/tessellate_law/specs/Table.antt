@@ -18,7 +18,7 @@ use Rattle.outline_ears.specs.Ears.{cross as turn, largest, scale, tolerance, i
 use Rattle.outline_triangulate.specs.Triangulate.{Clipping, without, clipped, dropped, fans, fan, fanned, byFound, pass, passes, finished, counting, start, triangulated, triangulatePolygon}
 use Rattle.mesh_spec.specs.Mesh.{Mesh, noMesh, plusZeroV, samePoint, firstSight, withPoint, weldTriangle, weldSoup, fromSoup, append, appendParts, fromParts}
 use Rattle.mesh_spec.specs.Measures.{triangleSoup, sumOf, volumeTerm, areaTerm, signedVolume, area}
-use Rattle.mesh_spec.specs.Closed.{Closed}
+use Rattle.mesh_balance_spec.specs.Count.{EdgesBalance}
 use Rattle.solid_spec.specs.Grid.{grid}
 use Rattle.solid_spec.specs.ParamBox.{coord, facePoint, face, faces, paramBox}
 use Rattle.solid_spec.specs.Sphere.{sphere, sphereSoup}
@@ -86,7 +86,7 @@ pub record Figures : Type 0 where
   pub flat-vertices : length (flatBox .vertices) ≡ 4
   pub flat-triangles : length (flatBox .triangles) ≡ 2
   pub flat-area : area flatBox ≡ float 2
-  pub flat-open : Closed flatBox → ⊥
+  pub flat-open : EdgesBalance (flatBox .triangles) → ⊥
   -- corners (0,0) (0,0) (1,0) (1,1) (0,0) clean to three
   pub cleans-to-three : cleanPolygon (corners ((0, 0) ∷ (0, 0) ∷ (1, 0) ∷ (1, 1) ∷ (0, 0) ∷ [])) ≡ corners ((0, 0) ∷ (1, 0) ∷ (1, 1) ∷ [])
   -- square (0,0) (1,0) (1,1) (0,1): triangles 3 0 1 and 1 2 3, one removed
@@ -164,7 +164,7 @@ unfolding areas
 flat-area-is = refl
 
 -- the directed edge (0, 1) is used once, its reverse not at all
-open-is : Closed flatMesh → ⊥
+open-is : EdgesBalance (flatMesh .triangles) → ⊥
 open-is c = let h : _≡_ {A = ℕ} 1 0 = c 0 1 in omega (arith, h)
 
 cleans : cleanPolygon (corners ((0, 0) ∷ (0, 0) ∷ (1, 0) ∷ (1, 1) ∷ (0, 0) ∷ [])) ≡ corners ((0, 0) ∷ (1, 0) ∷ (1, 1) ∷ [])
@@ -226,7 +226,7 @@ figures = record {
   flat-vertices = ap (λ (m : Mesh). length (m .vertices)) flat-is;
   flat-triangles = ap (λ (m : Mesh). length (m .triangles)) flat-is;
   flat-area = ap area flat-is ∙ flat-area-is;
-  flat-open = λ c. open-is (subst Closed flat-is c);
+  flat-open = λ c. open-is (subst (λ (m : Mesh). EdgesBalance (m .triangles)) flat-is c);
   cleans-to-three = cleans;
   square-triangles = ap (λ (s : Clipping). s .triangles) square-is;
   square-removed = ap (λ (s : Clipping). s .removed) square-is;

@@ -2,7 +2,7 @@
 use mathlib.Core.Bool.{Bool, cond}
 use lib.IntN.{pos}
 use lib.Ieee.{Float, binary64, le, ofInt}
-use Rattle.ieee.specs.MinMax.{absolute}
+use Rattle.ieee.specs.Number.{absolute}
 use Rattle.trig.specs.declared.Radians.{Radians}
 use Rattle.trig.specs.Angle.{toRadians}
 

@@ -2,7 +2,7 @@
 use mathlib.Core.Path.{_≡_, refl}
 use mathlib.Core.Bool.{true, false}
 use lib.Ieee.{binary64, le, ofInt, ofBits}
-use Rattle.ieee.specs.MinMax.{absolute}
+use Rattle.ieee.specs.Number.{absolute}
 use Rattle.transform.specs.Angle.{within1000}
 
 -- 1000 is accepted, and so is -1000; the next float above is not

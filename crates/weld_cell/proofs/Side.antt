@@ -17,7 +17,7 @@ use Rattle.weld_triangle.proofs.Triangle.{linked-moved}
 use Rattle.weld_quad.specs.declared.Quad.{Quad}
 use Rattle.weld_quad.specs.Quads.{Known, Numbered}
 use Rattle.weld_quad.proofs.Quads.{quad-numbered, first-moved, both-runs}
-use Rattle.mesh_balance_spec.specs.Grid.{turned}
+use Rattle.mesh_balance_spec.specs.Grid.{quadTurned}
 use Rattle.weld_cell.specs.Cell.{exchanged, SideRuns, TurnedSideRuns}
 use Rattle.weld_cell.proofs.Turned.{cell-flipped, cell-straight}
 
@@ -48,12 +48,12 @@ module _ (w : Welder) (vs : List Float) (ts ws : List ℕ) (R : Ready (held w vs
 module _ (a b c d b′ c′ : Vec3) (na nd : ℕ) (h : Held) (q : Quad) (vs : List Float) (ts ws : List ℕ) (f : h .st .finite ≡ true) (e : h .st .room ≡ true)
     (A : Known (h .st) (h .vertices) a na) (D : Known (h .st) (h .vertices) d nd) (fb : vFinite b ≡ true) (fc : vFinite c ≡ true) (eb : b′ ≡ plusZeroV b) (ec : c′ ≡ plusZeroV c)
     (flip : Bool) where
-  pub side-straight : flip ≡ false → SideRuns b′ c′ na nd h q vs ts ws → Numbered (turned flip a b c d) a b c d h q vs ts ws
+  pub side-straight : flip ≡ false → SideRuns b′ c′ na nd h q vs ts ws → Numbered (quadTurned flip a b c d) a b c d h q vs ts ws
   side-straight s P =
       cell-straight a b c d h q vs ts ws flip s
       (quad-numbered a b c d (plusZeroV a) b′ c′ (plusZeroV d) h q vs ts ws (A .finite f e) fb fc (D .finite f e) refl eb ec refl (P (plusZeroV a) (plusZeroV d) (A .first f) (D .first f)))
 
-  pub side-turned : flip ≡ true → TurnedSideRuns b′ c′ na nd h q vs ts ws → Numbered (turned flip a b c d) a b c d h q vs ts ws
+  pub side-turned : flip ≡ true → TurnedSideRuns b′ c′ na nd h q vs ts ws → Numbered (quadTurned flip a b c d) a b c d h q vs ts ws
   side-turned s P =
       cell-flipped a b c d h (exchanged q) vs ts ws flip s
       (quad-numbered a d c b (plusZeroV a) (plusZeroV d) c′ b′ h (exchanged q) vs ts ws (A .finite f e) (D .finite f e) fc fb refl refl ec eb (P (plusZeroV a) (plusZeroV d) (A .first f) (D .first f)))

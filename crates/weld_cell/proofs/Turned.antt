@@ -6,7 +6,7 @@ use Prim.Native.Nat.{ℕ, _<_, _^_}
 use lib.Ieee.{Float}
 use Rattle.math.specs.declared.Vec3.{Vec3}
 use Rattle.mesh_balance_spec.specs.Soup.{Tri}
-use Rattle.mesh_balance_spec.specs.Grid.{quad, turned}
+use Rattle.mesh_balance_spec.specs.Grid.{quad, quadTurned}
 use Rattle.slice_law.specs.Bools.{not-both}
 use Rattle.weld_triangle.specs.declared.Welded.{Welded}
 use Rattle.weld.specs.declared.Welder.{Welder}
@@ -20,11 +20,11 @@ module _ (a b c d : Vec3) (h : Held) (q : Quad) (vs : List Float) (ts ws : List 
   exchange : (soup : List (Tri Vec3)) → Numbered soup a d c b h q vs ts ws → Numbered soup a b c d h (exchanged q) vs ts ws
   exchange soup N = record { runs = N .runs; known-a = N .known-a; known-b = N .known-d; known-c = N .known-c; known-d = N .known-b }
 
-  pub cell-flipped : (flip : Bool) → flip ≡ true → Numbered (quad a d c b) a d c b h q vs ts ws → Numbered (turned flip a b c d) a b c d h (exchanged q) vs ts ws
-  cell-flipped flip e N = subst (λ (t : Bool). Numbered (turned t a b c d) a b c d h (exchanged q) vs ts ws) (sym e) (exchange (quad a d c b) N)
+  pub cell-flipped : (flip : Bool) → flip ≡ true → Numbered (quad a d c b) a d c b h q vs ts ws → Numbered (quadTurned flip a b c d) a b c d h (exchanged q) vs ts ws
+  cell-flipped flip e N = subst (λ (t : Bool). Numbered (quadTurned t a b c d) a b c d h (exchanged q) vs ts ws) (sym e) (exchange (quad a d c b) N)
 
-  pub cell-straight : (flip : Bool) → flip ≡ false → Numbered (quad a b c d) a b c d h q vs ts ws → Numbered (turned flip a b c d) a b c d h q vs ts ws
-  cell-straight flip e N = subst (λ (t : Bool). Numbered (turned t a b c d) a b c d h q vs ts ws) (sym e) N
+  pub cell-straight : (flip : Bool) → flip ≡ false → Numbered (quad a b c d) a b c d h q vs ts ws → Numbered (quadTurned flip a b c d) a b c d h q vs ts ws
+  cell-straight flip e N = subst (λ (t : Bool). Numbered (quadTurned t a b c d) a b c d h q vs ts ws) (sym e) N
 
 -- the parts of a test of three
 pub all-three : (x y z : Bool) → (x && y && z) ≡ true → (x ≡ true) × (y ≡ true) × (z ≡ true)
@@ -48,10 +48,10 @@ row-small flip w vs ws a b d na nb nd second fourth L f r A B D p q =
 pub cell-last : (flip : Bool) (a b c d : Vec3) (na nb nd second fourth : ℕ) (h : Held) (t : Welded) (vs : List Float) (ts ws : List ℕ)
     → second ≡ cond flip nd nb → fourth ≡ cond flip nb nd → LastRuns c na second fourth h t vs ts ws
     → Known (h .st) (h .vertices) a na → Known (h .st) (h .vertices) b nb → Known (h .st) (h .vertices) d nd
-    → Numbered (turned flip a b c d) a b c d h (quadWith t na nb nd) vs ts ws
+    → Numbered (quadTurned flip a b c d) a b c d h (quadWith t na nb nd) vs ts ws
 cell-last flip a b c d na nb nd second fourth h t vs ts ws p q L A B D =
     go flip (subst (λ (n : ℕ). LastRuns c na (cond flip nd nb) n h t vs ts ws) q (subst (λ (n : ℕ). LastRuns c na n fourth h t vs ts ws) p L))
   where
-    go : (f : Bool) → LastRuns c na (cond f nd nb) (cond f nb nd) h t vs ts ws → Numbered (turned f a b c d) a b c d h (quadWith t na nb nd) vs ts ws
+    go : (f : Bool) → LastRuns c na (cond f nd nb) (cond f nb nd) h t vs ts ws → Numbered (quadTurned f a b c d) a b c d h (quadWith t na nb nd) vs ts ws
     go true M = exchange a b c d h (quadWith t na nd nb) vs ts ws (quad a d c b) (M a d b A D B)
     go false M = M a b d A B D

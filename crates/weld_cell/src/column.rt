@@ -2,7 +2,7 @@
 ghost use mathlib.Core.Path.{_≡_};
 ghost use mathlib.Core.Bool.{true};
 ghost use Prim.Native.Nat.{_<_, _^_};
-ghost use Rattle.mesh_balance_spec.specs.Grid.{turned};
+ghost use Rattle.mesh_balance_spec.specs.Grid.{quadTurned};
 ghost use Rattle.weld_vertex.specs.Points.{Clean};
 ghost use Rattle.weld.specs.Rep.{held, Ready};
 ghost use Rattle.weld_quad.specs.Quads.{Known, Numbered};
@@ -31,7 +31,7 @@ pub fn weld_in_column(
 ) -> Quad
     requires { ⌜ Ready (held w (now vertices) (now triangles) (now work)) ⌝ }
     requires { ⌜ (known ≡ true → Known w (now vertices) a na × Known w (now vertices) d nd) ⌝ }
-    ensures { λ r. ⌜ Numbered (turned flip a b c d) a b c d
+    ensures { λ r. ⌜ Numbered (quadTurned flip a b c d) a b c d
         (held w (now (vertices .entry)) (now (triangles .entry)) (now (work .entry)))
         r (now (vertices .exit)) (now (triangles .exit)) (now (work .exit)) ⌝ }
 {

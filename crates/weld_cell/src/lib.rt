@@ -4,7 +4,7 @@ ghost use mathlib.Core.Path.{_≡_};
 ghost use mathlib.Core.Bool.{true, cond};
 ghost use Rattle.weld.specs.Rep.{held, Ready};
 ghost use Rattle.weld_quad.specs.Quads.{Known, Numbered};
-ghost use Rattle.mesh_balance_spec.specs.Grid.{turned};
+ghost use Rattle.mesh_balance_spec.specs.Grid.{quadTurned};
 
 mod column;
 
@@ -30,7 +30,7 @@ fn weld_cell(
     nd: usize,
 ) -> Quad
     requires { ⌜ Ready (held w (now vertices) (now triangles) (now work)) ⌝ }
-    ensures { λ r. ⌜ Numbered (turned flip a b c d) a b c d
+    ensures { λ r. ⌜ Numbered (quadTurned flip a b c d) a b c d
         (held w (now (vertices .entry)) (now (triangles .entry)) (now (work .entry)))
         r (now (vertices .exit)) (now (triangles .exit)) (now (work .exit)) ⌝ }
 {
@@ -68,7 +68,7 @@ pub fn weld_in_row(
 ) -> Quad
     requires { ⌜ Ready (held w (now vertices) (now triangles) (now work)) ⌝ }
     requires { ⌜ (known ≡ true → Known w (now vertices) a na × Known w (now vertices) b nb) ⌝ }
-    ensures { λ r. ⌜ Numbered (turned flip a b c d) a b c d
+    ensures { λ r. ⌜ Numbered (quadTurned flip a b c d) a b c d
         (held w (now (vertices .entry)) (now (triangles .entry)) (now (work .entry)))
         r (now (vertices .exit)) (now (triangles .exit)) (now (work .exit)) ⌝ }
 {

@@ -13,7 +13,8 @@ use Rattle.math.specs.declared.Vec3.{Vec3}
 use Rattle.mesh_balance_spec.specs.Soup.{Tri, mapTri}
 use Rattle.mesh_spec.specs.Mesh.{Mesh, samePoint, firstSight, append}
 use Rattle.mesh_spec.specs.Slices.{flatV, vertexAt}
-use Rattle.mesh_spec.specs.WeldLaws.{sight-at, sight-none, with-seen, with-new, with-longer, flatV-append}
+use Rattle.mesh_spec.specs.SliceLaws.{flatV-append}
+use Rattle.mesh_spec.specs.WeldLaws.{sight-at, sight-none, with-seen, with-new, with-longer}
 use Rattle.weld_hash.specs.declared.Found.the-variants.{Missing}
 use Rattle.weld.specs.declared.Welder.{Welder}
 use Rattle.weld.specs.declared.Foreseen.{Foreseen}

@@ -1,6 +1,7 @@
 -- `ieee::max` meets its contract. Assumes nothing.
 use lib.Ieee as Ieee
-use Rattle.ieee.specs.MinMax.{maximum, picks-second, picks-first, picks-other}
+use Rattle.ieee.specs.Number.{maximum}
+use Rattle.ieee.specs.MinMax.{picks-second, picks-first, picks-other}
 use Rattle.ieee.proofs.max.Statement.{statement}
 use Rattle.ieee.proofs.max.Tie as tie
 

@@ -1,6 +1,7 @@
 -- `ieee::min` meets its contract. Assumes nothing.
 use lib.Ieee as Ieee
-use Rattle.ieee.specs.MinMax.{minimum, picks-second, picks-first, picks-other}
+use Rattle.ieee.specs.Number.{minimum}
+use Rattle.ieee.specs.MinMax.{picks-second, picks-first, picks-other}
 use Rattle.ieee.proofs.min.Statement.{statement}
 use Rattle.ieee.proofs.min.Tie as tie
 

@@ -11,7 +11,7 @@ use Rattle.slice.specs.Every.{every}
 use Rattle.slice.specs.EveryLaws.{every-end}
 use Rattle.mesh_triples.specs.Triples.{tripleAt}
 use Rattle.mesh_triples.proofs.NextTriples.{next-tris}
-use Rattle.mesh_closed.specs.Even.{evenTriangle}
+use Rattle.mesh_closed.specs.Even.{closedTriangle}
 use Rattle.mesh_closed.proofs.Counts.{length-tris-whole}
 use Rattle.mesh_closed.proofs.ClosedTests.{every-fails, every-passes, closed-test}
 use borrow.Author.Needs.{needs}
@@ -19,25 +19,27 @@ use Rattle.mesh_closed.proofs.closed.Statement.{statement}
 use Rattle.mesh_closed.proofs.closed.Tie as tie
 
 abbrev Inv-loop : tie.InvT-loop
-Inv-loop t i₀ i = every (evenTriangle (tris t)) (drop i (tris t)) ≡ every (evenTriangle (tris t)) (tris t)
+Inv-loop n t i₀ i = every (closedTriangle n (tris t)) (drop i (tris t)) ≡ every (closedTriangle n (tris t)) (tris t)
 
 abbrev μ-loop : tie.MeasureT-loop
-μ-loop t i₀ i = length t / 3 - i
+μ-loop n t i₀ i = length t / 3 - i
 
 loop-holds : tie.Need-loop-holds Inv-loop μ-loop
 loop-holds c = refl
 
-triangle-even-requires : tie.Need-triangle-even-requires Inv-loop μ-loop
-triangle-even-requires c κs = omega arith
+triangle-closed-requires : tie.Need-triangle-closed-requires Inv-loop μ-loop
+triangle-closed-requires c κs = omega arith
 
 returns : tie.Need-returns Inv-loop μ-loop
 returns c =
-    let t = now (c .before .before .before .before .before .args .t) in
+    let a = c .before .before .before .before .before .args in
+    let m = a .n in
+    let t = now (a .t) in
     let l = c .before .before .before .loop in
     let n = next-tris t (l .i) 0 (omega arith) in
-    let e = not-true (c .before .triangle-even .result) (c .if1 .taken) in
-    let r = c .before .triangle-even .result in
-    closed-test (tris t) false (every-fails (evenTriangle (tris t)) (tris t) (l .i) (tripleAt t (l .i) 0) r n (c .before .triangle-even .ensures) e (l .inv))
+    let e = not-true (c .before .triangle-closed .result) (c .if1 .taken) in
+    let r = c .before .triangle-closed .result in
+    closed-test m (tris t) false (every-fails (closedTriangle m (tris t)) (tris t) (l .i) (tripleAt t (l .i) 0) r n (c .before .triangle-closed .ensures) e (l .inv))
 
 add-i : tie.Need-add-i Inv-loop μ-loop
 add-i c = omega arith
@@ -47,17 +49,21 @@ loop-less c = omega arith
 
 loop-again : tie.Need-loop-again Inv-loop μ-loop
 loop-again c =
-    let t = now (c .before .before .before .before .before .args .t) in
+    let a = c .before .before .before .before .before .args in
+    let m = a .n in
+    let t = now (a .t) in
     let l = c .before .before .before .loop in
     let n = next-tris t (l .i) 0 (omega arith) in
-    let e = not-false (c .before .triangle-even .result) (c .if1 .left) in
-    every-passes (evenTriangle (tris t)) (tris t) (l .i) (tripleAt t (l .i) 0) (c .before .triangle-even .result) n (c .before .triangle-even .ensures) e (l .inv)
+    let e = not-false (c .before .triangle-closed .result) (c .if1 .left) in
+    every-passes (closedTriangle m (tris t)) (tris t) (l .i) (tripleAt t (l .i) 0) (c .before .triangle-closed .result) n (c .before .triangle-closed .ensures) e (l .inv)
 
 returns-2 : tie.Need-returns-2 Inv-loop μ-loop
 returns-2 c =
-    let t = now (c .before .before .before .args .t) in
+    let a = c .before .before .before .args in
+    let m = a .n in
+    let t = now (a .t) in
     let l = c .before .loop in
-    closed-test (tris t) true (sym (every-end (evenTriangle (tris t)) (tris t) (l .i) (omega (arith, length-tris-whole t))) ∙ l .inv)
+    closed-test m (tris t) true (sym (every-end (closedTriangle m (tris t)) (tris t) (l .i) (omega (arith, length-tris-whole t))) ∙ l .inv)
 
 pub closed-spec : {M : Type 1} → statement M
 closed-spec =
@@ -66,7 +72,7 @@ closed-spec =
     Inv-loop
     μ-loop
     loop-holds
-    triangle-even-requires
+    triangle-closed-requires
     returns
     add-i
     loop-less

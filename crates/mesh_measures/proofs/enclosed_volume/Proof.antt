@@ -8,7 +8,7 @@ use Rattle.mesh_check.specs.State.{state, meshOf}
 use Rattle.mesh_check.proofs.Sound.{check-sound}
 use Rattle.mesh_measures.proofs.Readings.{all-within, sum-is, measure-refused, measure-done}
 use lib.Ieee.{Float, binary64, ofBits}
-use Rattle.ieee.specs.MinMax.{absolute}
+use Rattle.ieee.specs.Number.{absolute}
 use Rattle.mesh_spec.specs.Measures.{enclosedVolume, volumeTerm}
 use Rattle.mesh_sums.proofs.Terms.{volume-is}
 use borrow.Author.Needs.{needs}

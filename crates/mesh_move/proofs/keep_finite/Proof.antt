@@ -4,7 +4,7 @@ use mathlib.Core.Path.{sym}
 use Prim.Native.Nat.{_*_}
 use lib.ListN.{take}
 use borrow.Author.Needs.{needs}
-use Rattle.slice_law.specs.Bools.{and-left, and-right}
+use Rattle.mesh_move_affine.proofs.AffineLaws.{and-left, and-right}
 use Rattle.mesh_move_affine.proofs.BoundedLaws.{keeps}
 use Rattle.mesh_move.proofs.keep_finite.Statement.{statement}
 use Rattle.mesh_move.proofs.keep_finite.Tie as tie
@@ -16,14 +16,14 @@ returns : tie.Need-returns
 returns c =
     let a = c .before .before .before .args in
     let b = c .before .is-bounded in
-    let h = b .ensures (and-right (a .small) (b .result) (c .if1 .taken)) in
+    let h = b .ensures .yes (and-right (a .small) (b .result) (c .if1 .taken)) in
     sym (keeps (a .a) h (take (3 * a .n) (now (a .vertices))) (c .before .before .before .pre .bounded (and-left (a .small) (b .result) (c .if1 .taken))))
 
 is-affine-requires : tie.Need-is-affine-requires
 is-affine-requires c κs = tt
 
 stay-finite-requires : tie.Need-stay-finite-requires
-stay-finite-requires c κs = record { vertices = c .before .before .before .before .before .pre .vertices; affine = c .before .is-affine .ensures (c .if2 .taken) }
+stay-finite-requires c κs = record { vertices = c .before .before .before .before .before .pre .vertices; affine = c .before .is-affine .ensures .yes (c .if2 .taken) }
 
 returns-2 : tie.Need-returns-2
 returns-2 c = search needs

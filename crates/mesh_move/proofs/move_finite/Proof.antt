@@ -7,7 +7,7 @@ is-affine-requires : tie.Need-is-affine-requires
 is-affine-requires c κs = search needs
 
 move-all-requires : tie.Need-move-all-requires
-move-all-requires c κs = record { vertices = c .before .before .before .before .pre; affine = c .before .before .is-affine .ensures (c .before .if1 .taken) }
+move-all-requires c κs = record { vertices = c .before .before .before .before .pre; affine = c .before .before .is-affine .ensures .yes (c .before .if1 .taken) }
 
 same-length : tie.Need-same-length
 same-length c = search needs

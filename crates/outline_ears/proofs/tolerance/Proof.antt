@@ -5,7 +5,7 @@ use mathlib.Core.Path.{_≡_, refl, sym, ap, _∙_}
 use native.Mathlib.Omega.{arith}
 use lib.ListN.{length, drop}
 use lib.Ieee.{Float, binary64, ofBits, mul}
-use Rattle.ieee.specs.MinMax.{maximum}
+use Rattle.ieee.specs.Number.{maximum}
 use Rattle.outline_ears.specs.Ears.{largest, scale, tolerance}
 use Rattle.outline_ears.proofs.Laws.{largest-next, largest-end}
 use Rattle.outline_ears.proofs.tolerance.Statement.{statement}

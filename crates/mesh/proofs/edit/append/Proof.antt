@@ -10,7 +10,7 @@ use Rattle.mesh_spec.specs.Mesh.{append}
 use Rattle.mesh_check.specs.declared.TriMesh.{TriMesh}
 use Rattle.refusal.specs.Accepted.{isAccepted}
 use Rattle.mesh_check.specs.State.{state, meshOf, stored}
-use Rattle.mesh_append_check.specs.Append.{appendRefusal}
+use Rattle.mesh_refusals.specs.Append.{appendRefusal}
 use Rattle.mesh.specs.Edits.{appendOf}
 use Rattle.mesh_check.proofs.Stored.{stored-append}
 use Rattle.mesh.proofs.Given.{gives-kept, gives-done}

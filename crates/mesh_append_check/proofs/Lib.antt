@@ -1,2 +1,0 @@
--- Laws of the refusals of `append`.
-pub mod Tests

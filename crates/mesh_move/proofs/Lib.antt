@@ -1,0 +1,2 @@
+-- Laws that the proofs of `mesh_move` share.
+pub mod Moving

@@ -1,0 +1,2 @@
+-- What the contracts of `mesh_move` cite.
+pub mod Moves

@@ -1,0 +1,3 @@
+-- Laws of the refusals of `append` and of `transform`.
+pub mod AppendTests
+pub mod TransformTests

@@ -1,2 +1,0 @@
--- What the contracts of `mesh_transform_check` cite: the refusals of `transform`.
-pub mod Transform
