@@ -15,6 +15,7 @@ use Rattle.math.specs.declared.Vec3.{Vec3}
 use Rattle.math_matrix.specs.declared.Mat4.{Mat4}
 use Rattle.math.specs.Vec.{one}
 use Rattle.math_matrix.specs.Mat.{entry, rowOf, along, overW, transformPoint}
+use Rattle.slice_law.specs.Bools.{and-left, and-right, and-both}
 use Rattle.slice.specs.Every.{every}
 use Rattle.mesh_spec.specs.Decides.{Decides}
 use Rattle.mesh_spec.specs.Slices.{vecOf, vertexAt}
@@ -22,17 +23,6 @@ use Rattle.mesh_triples.specs.Triples.{eachTo, movedTriple}
 use Rattle.mesh_move_affine.specs.Affine.{Affine, affinePoint, Movable}
 use Rattle.slice.specs.EveryLaws.{every-at}
 use Rattle.mesh_triples.proofs.Each.{each-read}
-
-pub and-left : (a b : Bool) → (a && b) ≡ true → a ≡ true
-and-left true b e = refl
-and-left false b e = e
-
-pub and-right : (a b : Bool) → (a && b) ≡ true → b ≡ true
-and-right true b e = e
-and-right false b e = absurd (false≢true e)
-
-pub and-both : (a b : Bool) → a ≡ true → b ≡ true → (a && b) ≡ true
-and-both a b p q = rw (p, q)
 
 -- ---- the tests of the last row
 is-zero : (x : Float) → fits binary64 x ≡ true → eq x plusZero ≡ true → T (isZero x)

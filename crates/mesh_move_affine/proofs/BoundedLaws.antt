@@ -22,7 +22,7 @@ use Rattle.mesh_spec.specs.Slices.{points}
 use Rattle.slice_bounded.specs.Bounded.{isBounded}
 use Rattle.slice_bounded.specs.Laws.{bounded-finite, every-finite, row-finite}
 use Rattle.mesh_move_affine.specs.Affine.{Affine, affinePoint, RowsWithin, BoundedMatrix, FiniteVertices, Tested}
-use Rattle.mesh_move_affine.proofs.AffineLaws.{and-left, and-right, and-both, affine-point}
+use Rattle.mesh_move_affine.proofs.AffineLaws.{affine-point}
 
 -- the elements of the front pass a test, one by one
 every-of : {A : Type 0} (k : A → Bool) (l : List A) (n : ℕ) (d : A) → ((i : ℕ) → i < n → k (getD l i d) ≡ true) → every k (take n l) ≡ true
@@ -32,16 +32,16 @@ every-of k [] (suc n) d h = refl
 every-of k (x ∷ l) (suc n) d h = and-both (k x) (every k (take n l)) (h 0 (omega arith)) (every-of k l n d (λ i u. h (suc i) (omega arith)))
 
 -- the test of the first three rows
-pub rows-within : (a : Mat4) (r : Bool) → 12 ≤ length (a .m) → r ≡ every within (take 12 (a .m)) → Decides r (RowsWithin a)
-rows-within a r l e = record {
-  yes = λ t i j u v. true-T (within (entry a i j)) (every-at within (a .m) 12 (i * 4 + j) nan (sym e ∙ t) (omega arith) l);
-  no = λ h. e ∙ every-of within (a .m) 12 nan (λ k u. at h k u);
+pub rows-isBounded : (a : Mat4) (r : Bool) → 12 ≤ length (a .m) → r ≡ every isBounded (take 12 (a .m)) → Decides r (RowsWithin a)
+rows-isBounded a r l e = record {
+  yes = λ t i j u v. true-T (isBounded (entry a i j)) (every-at isBounded (a .m) 12 (i * 4 + j) nan (sym e ∙ t) (omega arith) l);
+  no = λ h. e ∙ every-of isBounded (a .m) 12 nan (λ k u. at h k u);
 }
   where
-    at : RowsWithin a → (k : ℕ) → k < 12 → within (getD (a .m) k nan) ≡ true
+    at : RowsWithin a → (k : ℕ) → k < 12 → isBounded (getD (a .m) k nan) ≡ true
     at h k u =
         let w : k / 4 * 4 + k % 4 ≡ k = omega arith in
-        ap {B = Bool} (λ (n : ℕ). within (getD (a .m) n nan)) (sym w) ∙ is-true (within (entry a (k / 4) (k % 4))) (h (k / 4) (k % 4) (omega arith) (omega arith))
+        ap {B = Bool} (λ (n : ℕ). isBounded (getD (a .m) n nan)) (sym w) ∙ is-true (isBounded (entry a (k / 4) (k % 4))) (h (k / 4) (k % 4) (omega arith) (omega arith))
 
 -- both tests of the matrix
 pub is-bounded : (a : Mat4) (p q : Bool) → Decides p (Affine a) → Decides q (RowsWithin a) → Decides (p && q) (BoundedMatrix a)

@@ -4,7 +4,7 @@ use mathlib.Core.Path.{sym}
 use Prim.Native.Nat.{_*_}
 use lib.ListN.{take}
 use borrow.Author.Needs.{needs}
-use Rattle.mesh_move_affine.proofs.AffineLaws.{and-left, and-right}
+use Rattle.slice_law.specs.Bools.{and-left, and-right}
 use Rattle.mesh_move_affine.proofs.BoundedLaws.{keeps}
 use Rattle.mesh_move.proofs.keep_finite.Statement.{statement}
 use Rattle.mesh_move.proofs.keep_finite.Tie as tie
