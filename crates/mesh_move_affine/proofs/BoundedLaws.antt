@@ -32,8 +32,8 @@ every-of k [] (suc n) d h = refl
 every-of k (x ∷ l) (suc n) d h = and-both (k x) (every k (take n l)) (h 0 (omega arith)) (every-of k l n d (λ i u. h (suc i) (omega arith)))
 
 -- the test of the first three rows
-pub rows-isBounded : (a : Mat4) (r : Bool) → 12 ≤ length (a .m) → r ≡ every isBounded (take 12 (a .m)) → Decides r (RowsWithin a)
-rows-isBounded a r l e = record {
+pub rows-within : (a : Mat4) (r : Bool) → 12 ≤ length (a .m) → r ≡ every isBounded (take 12 (a .m)) → Decides r (RowsWithin a)
+rows-within a r l e = record {
   yes = λ t i j u v. true-T (isBounded (entry a i j)) (every-at isBounded (a .m) 12 (i * 4 + j) nan (sym e ∙ t) (omega arith) l);
   no = λ h. e ∙ every-of isBounded (a .m) 12 nan (λ k u. at h k u);
 }
