@@ -7,8 +7,8 @@ use lib.Ieee.{Float, fin, sub, mul, neg, add, sum, round, size, span, climb, uni
 use lib.Count.{trailingZeros}
 use Rattle.ieee.specs.Number.{absolute, maximum}
 use Rattle.outline.specs.Corners.{point, same}
-use Rattle.outline_ears.specs.Ears.{cross, largest, scale, tolerance, inTriangle, blocks, any, blocked, ip, inx, earAt, crossAt, isEar, isFlat, seek, firstEar, firstFlat}
-use Rattle.outline_triangulate.specs.Triangulate.{without, clipped, dropped, fans, fan, fanned, byFound, pass, passes, finished, counting, start, triangulated, triangulatePolygon}
+use Rattle.outline_ears.specs.Ears.{cross, largest, scale, tolerance, inTriangle, blocks, any, blocked, ip, inx, earAt, crossAt, isEar, isFlat, counting, find, firstEar, firstFlat}
+use Rattle.outline_triangulate.specs.Triangulate.{without, clipped, dropped, fans, fan, fanned, byFound, pass, passes, finished, start, triangulated, triangulatePolygon}
 
 abbrev n0 : Float
 n0 = fin false 0 (pos 0)
@@ -25,13 +25,13 @@ n3 = fin false 3 (pos 0)
 -- the square (0,0) (1,0) (1,1) (0,1): triangles 3 0 1 and 1 2 3, one removed
 pub square : triangulatePolygon (n0 ∷ n0 ∷ n1 ∷ n0 ∷ n1 ∷ n1 ∷ n0 ∷ n1 ∷ []) ≡ record { idx = []; triangles = 3 ∷ 0 ∷ 1 ∷ 1 ∷ 2 ∷ 3 ∷ []; removed = 1 }
 unfolding triangulatePolygon triangulated passes finished start pass byFound fanned dropped clipped without firstEar firstFlat isEar isFlat earAt crossAt blocked blocks point same eq inTriangle cross
-    tolerance scale maximum absolute largest isNan any seek counting ip inx fan fans sub mul neg add sum round size span climb units odd lt le ofBits ofFields trailingZeros
+    tolerance scale maximum absolute largest isNan any find counting ip inx fan fans sub mul neg add sum round size span climb units odd lt le ofBits ofFields trailingZeros
 square = refl
 
 -- (0,0) (1,0) (2,0) (3,0): no triangles, one removed
 pub line : triangulatePolygon (n0 ∷ n0 ∷ n1 ∷ n0 ∷ n2 ∷ n0 ∷ n3 ∷ n0 ∷ []) ≡ record { idx = 1 ∷ 2 ∷ 3 ∷ []; triangles = []; removed = 1 }
 unfolding triangulatePolygon triangulated passes finished start pass byFound fanned dropped clipped without firstEar firstFlat isEar isFlat earAt crossAt blocked blocks point same eq inTriangle cross
-    tolerance scale maximum absolute largest isNan any seek counting ip inx fan fans sub mul neg add sum round size span climb units odd lt le ofBits ofFields trailingZeros
+    tolerance scale maximum absolute largest isNan any find counting ip inx fan fans sub mul neg add sum round size span climb units odd lt le ofBits ofFields trailingZeros
 line = refl
 
 -- two corners: none

@@ -10,11 +10,11 @@ use lib.Dec.{eqb, ltb}
 use lib.Ieee.{Float, lt}
 use borrow.Author.Tests.{ltb-true, ltb-false, le-ltb}
 use Rattle.outline.specs.Corners.{point}
-use Rattle.outline_ears.specs.Ears.{cross, tolerance, isEar, isFlat, firstEar, firstFlat}
+use Rattle.outline_ears.specs.Ears.{cross, tolerance, counting, isEar, isFlat, firstEar, firstFlat}
 use Rattle.outline_ears.specs.declared.Found.{Found}
 use Rattle.outline_ears.specs.declared.Found.the-variants.{At, Nothing}
-use Rattle.outline_ears.proofs.Laws.{seek-below}
-use Rattle.outline_triangulate.specs.Triangulate.{Clipping, without, counting, clipped, dropped, fanned, byFound, pass, passes, finished, start, triangulated, triangulatePolygon}
+use Rattle.outline_ears.proofs.Laws.{find-below}
+use Rattle.outline_triangulate.specs.Triangulate.{Clipping, without, clipped, dropped, fanned, byFound, pass, passes, finished, start, triangulated, triangulatePolygon}
 use Rattle.outline_triangulate.proofs.Writing.{length-without}
 use Rattle.outline_triangulate.proofs.Steps.{passes-more, passes-done, square-enough}
 use Rattle.outline_caps_law.specs.Caps.{counting-length}
@@ -27,7 +27,7 @@ pass-spent-flat : (v : List Float) (e : Float) (s : Clipping) (f : Found) → fi
     (length (byFound f (dropped s) (fanned s) .idx) < length (s .idx))
 unfolding byFound firstFlat dropped fanned
 pass-spent-flat v e s (At k) h h3 =
-    let b : k < length (s .idx) = omega (arith, seek-below (isFlat v e (s .idx)) (length (s .idx)) 0 k h) in
+    let b : k < length (s .idx) = omega (arith, find-below (isFlat v e (s .idx)) (length (s .idx)) 0 k h) in
     let n : length (without k (s .idx)) ≡ length (s .idx) - 1 = length-without k (s .idx) b in
     (omega arith, omega arith, omega arith)
 pass-spent-flat v e s Nothing h h3 = (omega arith, omega arith, omega arith)
@@ -37,7 +37,7 @@ pass-spent-ear : (v : List Float) (e : Float) (s : Clipping) (f : Found) → fir
     (r .removed + 3 ≤ s .removed + length (s .idx)) × (r .removed + length (r .idx) ≤ s .removed + length (s .idx)) × (length (r .idx) < length (s .idx))
 unfolding byFound firstEar clipped
 pass-spent-ear v e s (At k) h h3 =
-    let b : k < length (s .idx) = omega (arith, seek-below (isEar v e (s .idx)) (length (s .idx)) 0 k h) in
+    let b : k < length (s .idx) = omega (arith, find-below (isEar v e (s .idx)) (length (s .idx)) 0 k h) in
     let n : length (without k (s .idx)) ≡ length (s .idx) - 1 = length-without k (s .idx) b in
     (omega arith, omega arith, omega arith)
 pass-spent-ear v e s Nothing h h3 = pass-spent-flat v e s (firstFlat v e (s .idx)) refl h3

@@ -14,7 +14,7 @@ use Rattle.outline.specs.Corners.{point}
 use Rattle.outline_ears.specs.Ears.{cross, ip, inx, isEar, isFlat, firstEar, firstFlat}
 use Rattle.outline_ears.specs.declared.Found.{Found}
 use Rattle.outline_ears.specs.declared.Found.the-variants.{At, Nothing}
-use Rattle.outline_ears.proofs.Laws.{seek-below}
+use Rattle.outline_ears.proofs.Laws.{find-below}
 use Rattle.outline_triangulate.specs.Triangulate.{Clipping, without, fan, clipped, dropped, fanned, byFound, pass, passes, finished}
 use Rattle.outline_triangulate.proofs.Writing.{length-without}
 use Rattle.outline_caps_law.specs.Edges.{edges, chain, cycle, Thirds, none, more, cycle-cut, thirds-append, edges-append, fan-thirds, fan-length, fan-edges}
@@ -84,13 +84,13 @@ fanned-kept s h3 =
 -- a pass, by what the searches find
 pass-flat-kept : (v : List Float) (e : Float) (s : Clipping) (f : Found) → firstFlat v e (s .idx) ≡ f → 3 < length (s .idx) → Kept s (byFound f (dropped s) (fanned s))
 unfolding byFound firstFlat
-pass-flat-kept v e s (At k) h h3 = dropped-kept s k (omega (arith, seek-below (isFlat v e (s .idx)) (length (s .idx)) 0 k h)) h3
+pass-flat-kept v e s (At k) h h3 = dropped-kept s k (omega (arith, find-below (isFlat v e (s .idx)) (length (s .idx)) 0 k h)) h3
 pass-flat-kept v e s Nothing h h3 = fanned-kept s h3
 
 pass-ear-kept : (v : List Float) (e : Float) (s : Clipping) (f : Found) → firstEar v e (s .idx) ≡ f → 3 < length (s .idx)
     → Kept s (byFound f (clipped s) (byFound (firstFlat v e (s .idx)) (dropped s) (fanned s)))
 unfolding byFound firstEar
-pass-ear-kept v e s (At k) h h3 = clipped-kept s k (omega (arith, seek-below (isEar v e (s .idx)) (length (s .idx)) 0 k h)) h3
+pass-ear-kept v e s (At k) h h3 = clipped-kept s k (omega (arith, find-below (isEar v e (s .idx)) (length (s .idx)) 0 k h)) h3
 pass-ear-kept v e s Nothing h h3 = pass-flat-kept v e s (firstFlat v e (s .idx)) refl h3
 
 pass-kept : (v : List Float) (e : Float) (s : Clipping) → 3 < length (s .idx) → Kept s (pass v e s)

@@ -14,7 +14,7 @@ use borrow.Author.Tests.{eq-eqb, ne-eqb}
 use Rattle.ieee.specs.Number.{absolute, maximum}
 use Rattle.outline.specs.declared.Point.{Point}
 use Rattle.outline.specs.Corners.{point, same}
-use Rattle.outline_ears.specs.Ears.{cross, largest, inTriangle, blocks, any, blocked, ip, inx, earAt, crossAt, isEar, isFlat, seek, firstEar, firstFlat}
+use Rattle.outline_ears.specs.Ears.{cross, largest, inTriangle, blocks, any, blocked, ip, inx, earAt, crossAt, isEar, isFlat, counting, find, firstEar, firstFlat}
 use Rattle.outline_ears.specs.Inside.{Inside}
 use Rattle.outline_ears.specs.declared.Ear.{Ear}
 use Rattle.outline_ears.specs.declared.Found.{Found}
@@ -46,35 +46,35 @@ blocked-is v e t l = refl
 
 -- ---- the first index that passes, among those below m
 
-seek-next : (p : ℕ → Bool) (m k : ℕ) → k < m → seek p (m - k) k ≡ cond (p k) (At k) (seek p (m - (k + 1)) (k + 1))
-unfolding seek
-seek-next p m k h =
+find-next : (p : ℕ → Bool) (m k : ℕ) → k < m → find p (counting k (m - k)) ≡ cond (p k) (At k) (find p (counting (k + 1) (m - (k + 1))))
+unfolding find counting
+find-next p m k h =
     let e : m - k ≡ suc (m - (k + 1)) = omega arith in
     rw (e, add-one)
 
-pub seek-end : (p : ℕ → Bool) (m k : ℕ) → m ≤ k → seek p (m - k) k ≡ Nothing
-unfolding seek
-seek-end p m k h =
+pub find-end : (p : ℕ → Bool) (m k : ℕ) → m ≤ k → find p (counting k (m - k)) ≡ Nothing
+unfolding find counting
+find-end p m k h =
     let e : m - k ≡ 0 = omega arith in
     rw e
 
 -- index k passes, or it does not and the search goes on
 module _ (p : ℕ → Bool) (m k : ℕ) (h : k < m) where
-  pub seek-here : p k ≡ true → seek p (m - k) k ≡ At k
-  seek-here e = seek-next p m k h ∙ rw e
+  pub find-here : p k ≡ true → find p (counting k (m - k)) ≡ At k
+  find-here e = find-next p m k h ∙ rw e
 
-  pub seek-on : p k ≡ false → seek p (m - (k + 1)) (k + 1) ≡ seek p (m - k) k
-  seek-on e = sym (seek-next p m k h ∙ rw e)
+  pub find-on : p k ≡ false → find p (counting (k + 1) (m - (k + 1))) ≡ find p (counting k (m - k))
+  find-on e = sym (find-next p m k h ∙ rw e)
 
 -- an index that is found is one of those that were searched
-seek-by : (d k j : ℕ) (t : Bool) (r : Found) → (r ≡ At j → j < suc k + d) → cond t (At k) r ≡ At j → j < k + suc d
-seek-by d k j true r h e = let z : k ≡ j = cc in omega arith
-seek-by d k j false r h e = omega (arith, h e)
+find-by : (d k j : ℕ) (t : Bool) (r : Found) → (r ≡ At j → j < suc k + d) → cond t (At k) r ≡ At j → j < k + suc d
+find-by d k j true r h e = let z : k ≡ j = cc in omega arith
+find-by d k j false r h e = omega (arith, h e)
 
-pub seek-below : (p : ℕ → Bool) (d k j : ℕ) → seek p d k ≡ At j → j < k + d
-unfolding seek
-seek-below p zero k j e = let z : _≡_ {A = ℕ} 0 1 = cc in omega arith
-seek-below p (suc d) k j e = seek-by d k j (p k) (seek p d (suc k)) (λ q. seek-below p d (suc k) j q) e
+pub find-below : (p : ℕ → Bool) (d k j : ℕ) → find p (counting k d) ≡ At j → j < k + d
+unfolding find counting
+find-below p zero k j e = let z : _≡_ {A = ℕ} 0 1 = cc in omega arith
+find-below p (suc d) k j e = find-by d k j (p k) (find p (counting (suc k) d)) (λ q. find-below p d (suc k) j q) e
 
 -- ---- the test on a triangle, by what the code has found
 
@@ -178,11 +178,11 @@ module _ (v : List Float) (idx : List ℕ) (n : ℕ) (s : Inside v idx n) where
     pub any-none : n ≤ q → any p (drop q (take n idx)) ≡ false
     any-none h = any-end p (take n idx) q (omega (arith, idx-length))
 
-  pub firstEar-is : (e : Float) → seek (isEar v e (take n idx)) (n - 0) 0 ≡ firstEar v e (take n idx)
+  pub firstEar-is : (e : Float) → find (isEar v e (take n idx)) (counting 0 (n - 0)) ≡ firstEar v e (take n idx)
   unfolding firstEar
   firstEar-is e = rw (idx-length, sub-zero)
 
-  pub firstFlat-is : (e : Float) → seek (isFlat v e (take n idx)) (n - 0) 0 ≡ firstFlat v e (take n idx)
+  pub firstFlat-is : (e : Float) → find (isFlat v e (take n idx)) (counting 0 (n - 0)) ≡ firstFlat v e (take n idx)
   unfolding firstFlat
   firstFlat-is e = rw (idx-length, sub-zero)
 

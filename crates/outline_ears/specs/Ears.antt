@@ -87,17 +87,22 @@ isEar v eps idx k = not (le (crossAt v idx k) eps) && not (blocked v eps (earAt 
 unfoldable pub isFlat : List Float → Float → List ℕ → ℕ → Bool
 isFlat v eps idx k = le (absolute (crossAt v idx k)) eps
 
--- the Rust's `find`: the first of the d indices from k on that passes
-unfoldable pub seek : (ℕ → Bool) → ℕ → ℕ → Found
-seek p zero k = Nothing
-seek p (suc d) k = cond (p k) (At k) (seek p d (suc k))
+-- n numbers from k on; with k = 0 the Rust's 0..n
+unfoldable pub counting : ℕ → ℕ → List ℕ
+counting k zero = []
+counting k (suc n) = k ∷ counting (suc k) n
+
+-- the Rust's `find`: the first number of the list that passes the test
+unfoldable pub find : (ℕ → Bool) → List ℕ → Found
+find p [] = Nothing
+find p (k ∷ l) = cond (p k) (At k) (find p l)
 
 -- the Rust's loop `for k in 0..m`: the first unblocked ear
 unfoldable pub firstEar : List Float → Float → List ℕ → Found
-unfolding seek
-firstEar v eps idx = seek (isEar v eps idx) (length idx) 0
+unfolding find counting
+firstEar v eps idx = find (isEar v eps idx) (counting 0 (length idx))
 
 -- the Rust's `(0..m).find(..)`: the first flat corner
 unfoldable pub firstFlat : List Float → Float → List ℕ → Found
-unfolding seek
-firstFlat v eps idx = seek (isFlat v eps idx) (length idx) 0
+unfolding find counting
+firstFlat v eps idx = find (isFlat v eps idx) (counting 0 (length idx))

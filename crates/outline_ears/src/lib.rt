@@ -164,13 +164,13 @@ pub fn first_flat(v: &[f64], eps: f64, idx: &[u32; 512], m: usize) -> Found
     requires { ⌜ Inside (now v) (now idx) m ⌝ }
     ensures { λ r. ⌜ r ≡ firstFlat (now (v .entry)) eps (take m (now (idx .entry))) ⌝ }
 {
-    let mut k = 0;
-    while k < m {
-        let t = ear_at(v, idx, m, k);
+    let mut j = 0;
+    while j < m {
+        let t = ear_at(v, idx, m, j);
         if ieee::abs(cross(t.a, t.b, t.c)) <= eps {
-            return Found::At(k);
+            return Found::At(j);
         }
-        k += 1;
+        j += 1;
     }
     Found::Nothing
 }

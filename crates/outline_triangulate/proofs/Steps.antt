@@ -11,13 +11,13 @@ use lib.Ieee.{Float, lt}
 use borrow.Author.Tests.{eq-eqb, ne-eqb, lt-ltb, le-ltb}
 use Rattle.slice_law.specs.Lists.{drop-further}
 use Rattle.outline.specs.Corners.{point}
-use Rattle.outline_ears.specs.Ears.{cross, tolerance, ip, inx, earAt, isEar, isFlat, firstEar, firstFlat}
+use Rattle.outline_ears.specs.Ears.{cross, tolerance, ip, inx, counting, earAt, isEar, isFlat, firstEar, firstFlat}
 use Rattle.outline_ears.specs.Inside.{Inside}
 use Rattle.outline_ears.specs.declared.Ear.{Ear}
 use Rattle.outline_ears.specs.declared.Found.{Found}
 use Rattle.outline_ears.specs.declared.Found.the-variants.{At, Nothing}
-use Rattle.outline_ears.proofs.Laws.{idx-length, idx-at, seek-below}
-use Rattle.outline_triangulate.specs.Triangulate.{Clipping, without, fan, counting, clipped, dropped, fanned, byFound, pass, passes, finished, start, triangulated, triangulatePolygon}
+use Rattle.outline_ears.proofs.Laws.{idx-length, idx-at, find-below}
+use Rattle.outline_triangulate.specs.Triangulate.{Clipping, without, fan, clipped, dropped, fanned, byFound, pass, passes, finished, start, triangulated, triangulatePolygon}
 use Rattle.outline_triangulate.specs.Slices.{idxOf, clippingOf, Room, Passing, CutAs, WroteTriangles}
 use Rattle.outline_triangulate.specs.declared.Remaining.{Remaining}
 use Rattle.outline_triangulate.specs.declared.Cut.{Cut}
@@ -74,11 +74,11 @@ module _ (v : List Float) (e : Float) (s : Clipping) where
 module _ (v : List Float) (e : Float) (idx : List ℕ) (n : ℕ) (s : Inside v idx n) (k : ℕ) {f : Found} where
   pub ear-below : f ≡ firstEar v e (take n idx) → f ≡ At k → k < n
   unfolding firstEar
-  ear-below h hk = omega (arith, seek-below (isEar v e (take n idx)) (length (take n idx)) 0 k (sym h ∙ hk), idx-length v idx n s)
+  ear-below h hk = omega (arith, find-below (isEar v e (take n idx)) (length (take n idx)) 0 k (sym h ∙ hk), idx-length v idx n s)
 
   pub flat-below : f ≡ firstFlat v e (take n idx) → f ≡ At k → k < n
   unfolding firstFlat
-  flat-below h hk = omega (arith, seek-below (isFlat v e (take n idx)) (length (take n idx)) 0 k (sym h ∙ hk), idx-length v idx n s)
+  flat-below h hk = omega (arith, find-below (isFlat v e (take n idx)) (length (take n idx)) 0 k (sym h ∙ hk), idx-length v idx n s)
 
 module _ (v : List Float) (e : Float) (idx : List ℕ) (n : ℕ) (c : Cut) (b : List ℕ) (h3 : 3 < n) (s : Inside v idx n) (m : Room n c b) {f : Found} (ear : f ≡ firstEar v e (take n idx)) where
   -- an ear is clipped

@@ -10,9 +10,10 @@ use lib.ListN.{length, getD, take, drop, set, length-append, length-drop, length
 use lib.Seq.{drop-cons, take-suc, take-suc-set, drop-set-lt, getD-drop, getD-take, length-take-le, take-take, drop-drop, take-add, take-at, drop-at, take-append-add, getD-append-add}
 use lib.Ieee.{Float}
 use Rattle.slice_law.specs.Lists.{drop-further}
+use Rattle.outline_ears.specs.Ears.{counting}
 use Rattle.outline_ears.specs.Inside.{Inside}
 use Rattle.outline_ears.proofs.Laws.{idx-length, idx-at}
-use Rattle.outline_triangulate.specs.Triangulate.{without, fans, fan, counting}
+use Rattle.outline_triangulate.specs.Triangulate.{without, fans, fan}
 use Rattle.outline_triangulate.specs.Slices.{idxOf, WroteTriangles}
 use Rattle.outline_triangulate.specs.declared.Remaining.{Remaining}
 

@@ -7,7 +7,7 @@ use lib.ListN.{length, getD, take, drop}
 use lib.Dec.{ltb, eqb}
 use lib.Ieee.{Float, lt}
 use Rattle.outline.specs.Corners.{point}
-use Rattle.outline_ears.specs.Ears.{cross, tolerance, ip, inx, firstEar, firstFlat}
+use Rattle.outline_ears.specs.Ears.{cross, tolerance, ip, inx, counting, firstEar, firstFlat}
 use Rattle.outline_ears.specs.declared.Found.{Found}
 use Rattle.outline_ears.specs.declared.Found.the-variants.{At, Nothing}
 
@@ -72,11 +72,6 @@ finished v eps s =
     cond (eqb (length (s .idx)) 3 && lt eps (cross (point v (getD (s .idx) 0 0)) (point v (getD (s .idx) 1 0)) (point v (getD (s .idx) 2 0))))
     (record { idx = []; triangles = s .triangles ++ take 3 (s .idx); removed = s .removed })
     s
-
--- k, k + 1, .., n numbers
-unfoldable pub counting : ℕ → ℕ → List ℕ
-counting k zero = []
-counting k (suc n) = k ∷ counting (suc k) n
 
 -- the Rust's idx = (0..n).collect(), and no triangles
 unfoldable pub start : ℕ → Clipping

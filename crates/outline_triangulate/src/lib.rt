@@ -5,7 +5,7 @@ mod passes;
 pub use passes::triangulate_polygon;
 
 // The Rust's idx, the numbers of the corners that remain: the first m numbers of the array.
-pub struct Remaining {
+pub(crate) struct Remaining {
     pub idx: [u32; 512],
     pub m: usize,
 }
@@ -17,7 +17,7 @@ pub struct Cut {
 }
 
 // What a pass answers, with the counts then: the corner at an index of idx goes, or the rest was fanned and nothing remains.
-pub enum Passed {
+pub(crate) enum Passed {
     Without(usize, Cut),
     Fanned(Cut),
 }

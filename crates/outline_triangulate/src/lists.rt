@@ -3,7 +3,8 @@ ghost use mathlib.Core.Path.{_≡_};
 ghost use mathlib.Core.List.{[], _∷_};
 ghost use Prim.Native.Nat.{_+_, _-_, _*_, _<_, _≤_, _^_};
 ghost use lib.ListN.{length, take};
-ghost use Rattle.outline_triangulate.specs.Triangulate.{without as without·, fan as fan·, counting as counting·};
+ghost use Rattle.outline_ears.specs.Ears.{counting as counting·};
+ghost use Rattle.outline_triangulate.specs.Triangulate.{without as without·, fan as fan·};
 ghost use Rattle.outline_triangulate.specs.Slices.{idxOf, WroteTriangles};
 use crate::Remaining;
 

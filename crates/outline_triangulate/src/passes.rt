@@ -53,7 +53,7 @@ fn finish(v: &[f64], eps: f64, idx: &[u32; 512], m: usize, cut: Cut, out: &mut [
     requires { ⌜ (m ≤ 3) × Inside (now v) (now idx) m × Room m cut (now out) ⌝ }
     ensures { λ r. ⌜ (cut .triangles ≤ r .triangles) × CutAs (finished (now (v .entry)) eps (clippingOf (take m (now (idx .entry))) cut (now (out .entry)))) r (now (out .entry)) (now (out .exit)) ⌝ }
 {
-    let t = cut.triangles;
+    let given = cut.triangles;
     if m == 3 {
         let i = idx[0];
         let j = idx[1];
@@ -65,9 +65,9 @@ fn finish(v: &[f64], eps: f64, idx: &[u32; 512], m: usize, cut: Cut, out: &mut [
         )
             > eps
         {
-            lists::put(out, t, i, j, k);
+            lists::put(out, given, i, j, k);
             return Cut {
-                triangles: t + 1,
+                triangles: given + 1,
                 removed: cut.removed,
             };
         }

@@ -14,8 +14,8 @@ use Rattle.math.specs.declared.Vec3.{Vec3}
 use Rattle.math.specs.Vec.{axis, withAxis, vSub, vMin, vMax, dot, cross, normSq, norm}
 use Rattle.outline.specs.Corners.{point, same}
 use Rattle.outline.specs.Clean.{endsIn, pushed, gathered, stay, cleanPolygon}
-use Rattle.outline_ears.specs.Ears.{cross as turn, largest, scale, tolerance, inTriangle, blocks, any, blocked, ip, inx, earAt, crossAt, isEar, isFlat, seek, firstEar, firstFlat}
-use Rattle.outline_triangulate.specs.Triangulate.{Clipping, without, clipped, dropped, fans, fan, fanned, byFound, pass, passes, finished, counting, start, triangulated, triangulatePolygon}
+use Rattle.outline_ears.specs.Ears.{cross as turn, largest, scale, tolerance, inTriangle, blocks, any, blocked, ip, inx, earAt, crossAt, isEar, isFlat, counting, find, firstEar, firstFlat}
+use Rattle.outline_triangulate.specs.Triangulate.{Clipping, without, clipped, dropped, fans, fan, fanned, byFound, pass, passes, finished, start, triangulated, triangulatePolygon}
 use Rattle.mesh_spec.specs.Mesh.{Mesh, noMesh, plusZeroV, samePoint, firstSight, withPoint, weldTriangle, weldSoup, fromSoup, append, appendParts, fromParts}
 use Rattle.mesh_spec.specs.Measures.{triangleSoup, sumOf, volumeTerm, areaTerm, signedVolume, area}
 use Rattle.mesh_balance_spec.specs.Count.{EdgesBalance}
@@ -123,7 +123,7 @@ areas = area
 
 unfoldable clips : List Float → Clipping
 unfolding triangulatePolygon triangulated passes finished start pass byFound fanned dropped clipped without fan fans counting
-    firstEar firstFlat isEar isFlat earAt crossAt blocked blocks inTriangle turn tolerance scale largest any seek ip inx
+    firstEar firstFlat isEar isFlat earAt crossAt blocked blocks inTriangle turn tolerance scale largest any find ip inx
     point same maximum absolute isNan eq lt le neg add sub mul ofInt ofBits
 clips = triangulatePolygon
 

@@ -4,13 +4,13 @@ use mathlib.Core.Path.{_≡_, sym, _∙_}
 use native.Mathlib.Omega.{arith}
 use Prim.Native.Nat.{_≤_, _-_}
 use lib.ListN.{take}
-use Rattle.outline_ears.specs.Ears.{isFlat, firstFlat, seek}
-use Rattle.outline_ears.proofs.Laws.{seek-here, seek-on, seek-end, firstFlat-is, isFlat-is}
+use Rattle.outline_ears.specs.Ears.{isFlat, firstFlat, counting, find}
+use Rattle.outline_ears.proofs.Laws.{find-here, find-on, find-end, firstFlat-is, isFlat-is}
 use Rattle.outline_ears.proofs.first_flat.Statement.{statement}
 use Rattle.outline_ears.proofs.first_flat.Tie as tie
 
 abbrev Inv-loop : tie.InvT-loop
-Inv-loop v eps idx m k₀ k = (k ≤ m) × (seek (isFlat v eps (take m idx)) (m - k) k ≡ firstFlat v eps (take m idx))
+Inv-loop v eps idx m k₀ k = (k ≤ m) × (find (isFlat v eps (take m idx)) (counting k (m - k)) ≡ firstFlat v eps (take m idx))
 
 abbrev μ-loop : tie.MeasureT-loop
 μ-loop v eps idx m k₀ k = m - k
@@ -32,11 +32,11 @@ returns c =
     let d = c .before .before .before .before .before .before .before in
     let l = c .before .before .before .before .before .loop in
     let p = isFlat (now (d .args .v)) (d .args .eps) (take (d .args .m) (now (d .args .idx))) in
-    sym (seek-here p (d .args .m) (l .k) (c .before .before .before .before .loop-test .taken)
+    sym (find-here p (d .args .m) (l .j) (c .before .before .before .before .loop-test .taken)
     (sym (isFlat-is _ _ _ _ _ (c .before .before .before .ear-at .ensures) _ (c .before .before .cross .ensures) (c .before .abs .ensures)) ∙ c .if1 .taken)) ∙ l .inv .1
 
-add-k : tie.Need-add-k Inv-loop μ-loop
-add-k c = omega (arith, c .before .before .before .before .before .before .before .pre .small)
+add-j : tie.Need-add-j Inv-loop μ-loop
+add-j c = omega (arith, c .before .before .before .before .before .before .before .pre .small)
 
 loop-less : tie.Need-loop-less Inv-loop μ-loop
 loop-less c = omega arith
@@ -47,7 +47,7 @@ loop-again c =
     let l = c .before .before .before .before .before .loop in
     let p = isFlat (now (d .args .v)) (d .args .eps) (take (d .args .m) (now (d .args .idx))) in (
       omega arith,
-      seek-on p (d .args .m) (l .k) (c .before .before .before .before .loop-test .taken)
+      find-on p (d .args .m) (l .j) (c .before .before .before .before .loop-test .taken)
           (sym (isFlat-is _ _ _ _ _ (c .before .before .before .ear-at .ensures) _ (c .before .before .cross .ensures) (c .before .abs .ensures)) ∙ c .if1 .left) ∙ l .inv .1,
     )
 
@@ -55,7 +55,7 @@ returns-2 : tie.Need-returns-2 Inv-loop μ-loop
 returns-2 c =
     let d = c .before .before .before in
     let l = c .before .loop in
-    sym (seek-end (isFlat (now (d .args .v)) (d .args .eps) (take (d .args .m) (now (d .args .idx)))) (d .args .m) (l .k) (c .loop-test .left)) ∙ l .inv .1
+    sym (find-end (isFlat (now (d .args .v)) (d .args .eps) (take (d .args .m) (now (d .args .idx)))) (d .args .m) (l .j) (c .loop-test .left)) ∙ l .inv .1
 
 pub first-flat-spec : {M : Type 1} → statement M
 first-flat-spec =
@@ -68,7 +68,7 @@ first-flat-spec =
     cross-requires
     abs-requires
     returns
-    add-k
+    add-j
     loop-less
     loop-again
     returns-2)

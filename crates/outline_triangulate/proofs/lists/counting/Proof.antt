@@ -4,7 +4,7 @@ use native.Mathlib.Omega.{arith}
 use Prim.Native.Nat.{ℕ, _≤_, _-_}
 use mathlib.Core.List.{[]}
 use lib.ListN.{length, take, length-set}
-use Rattle.outline_triangulate.specs.Triangulate.{counting}
+use Rattle.outline_ears.specs.Ears.{counting}
 use Rattle.outline_triangulate.proofs.Writing.{counting-none, count-step}
 use Rattle.outline_triangulate.proofs.lists.counting.Statement.{statement}
 use Rattle.outline_triangulate.proofs.lists.counting.Tie as tie

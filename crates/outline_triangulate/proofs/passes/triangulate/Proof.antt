@@ -4,8 +4,9 @@ use mathlib.Core.Path.{_≡_, refl, sym, ap, _∙_}
 use native.Mathlib.Omega.{arith}
 use Prim.Native.Nat.{_*_, _/_}
 use lib.ListN.{length}
+use Rattle.outline_ears.specs.Ears.{counting}
 use Rattle.outline_ears.proofs.Laws.{idx-length}
-use Rattle.outline_triangulate.specs.Triangulate.{passes, start, counting}
+use Rattle.outline_triangulate.specs.Triangulate.{passes, start}
 use Rattle.outline_triangulate.specs.Slices.{clippingOf, idxOf}
 use Rattle.outline_triangulate.proofs.Writing.{counting-inside}
 use Rattle.outline_triangulate.proofs.Steps.{Going, goes-on, goes-without, goes-fanned, square-enough, reaches-end, triangulate-few, triangulate-is, start-is, cut-from, cut-short, passing-at}
