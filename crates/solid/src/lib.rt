@@ -1,7 +1,7 @@
 // Each solid of tessellate in src/tessellate.rs, streamed into the welder.
 mod outlines;
 mod shapes;
-mod solid;
+mod single;
 mod tubes;
 
 pub use shapes::weld_shape;

@@ -37,7 +37,7 @@ fn weld_rot_poly(
     if normal < 3 {
         if axis < 3 {
             if normal != axis {
-                return solid_sweep::weld_rotated(
+                return solid_outline::weld_rotated(
                     vertices,
                     triangles,
                     work,
@@ -75,7 +75,7 @@ pub fn weld_outline(
         Shape::Polygon {
             norm_dir,
             elevation,
-        } => solid_sweep::weld_extruded(
+        } => solid_outline::weld_extruded(
             vertices,
             triangles,
             work,
@@ -91,7 +91,7 @@ pub fn weld_outline(
             length,
         } => {
             let end = elevation + length;
-            solid_sweep::weld_extruded(
+            solid_outline::weld_extruded(
                 vertices,
                 triangles,
                 work,

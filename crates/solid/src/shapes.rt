@@ -5,7 +5,7 @@ ghost use Rattle.solid_parts.specs.Parts.{PartsRun};
 ghost use Rattle.tessellate_spec.specs.Solid.{partsOf};
 ghost use Rattle.solid.specs.Limits.{Bounded, Listed};
 use crate::outlines;
-use crate::solid;
+use crate::single;
 use crate::tubes;
 use shape::Shape;
 use shape::TessellationOptions;
@@ -70,7 +70,7 @@ pub fn weld_shape(
             cylindrical,
             segments,
         )),
-        _ => weld::new_part(solid::weld_solid(
+        _ => weld::new_part(single::weld_solid(
             vertices,
             triangles,
             work,

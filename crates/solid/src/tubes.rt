@@ -29,7 +29,7 @@ fn weld_between(
 {
     let a = surface_coords::to_cartesian(start, cylindrical);
     let b = surface_coords::to_cartesian(stop, cylindrical);
-    solid_round::weld_cylinder(vertices, triangles, work, w, a, b, inner, outer, segments)
+    solid_cylinder::weld_cylinder(vertices, triangles, work, w, a, b, inner, outer, segments)
 }
 
 // Welds a cylinder or a cylindrical shell, and nothing of another shape.

@@ -8,14 +8,14 @@ use Rattle.math.specs.declared.Vec3.{Vec3}
 use Rattle.math.specs.Vec.{new, vMin, vMax}
 use Rattle.weld.specs.Rep.{Held, Runs}
 use Rattle.weld.specs.Runs.{runs-as}
-use Rattle.solid_spec.specs.declared.Chart.the-variants.{Cartesian, Cylindrical}
+use Rattle.surface_spec.specs.declared.Chart.the-variants.{Cartesian, Cylindrical}
 use Rattle.shape.specs.Arc.{arcSegments, isFull}
 use Rattle.solid_spec.specs.Grid.{Soup}
 use Rattle.solid_spec.specs.ParamBox.{three, paramBox}
 use Rattle.solid_spec.specs.Coords.{cylindricalToCartesian}
 use Rattle.solid_spec.specs.Boxes.{asIs, turnedTo, cylindricalBox, boxShape}
-use Rattle.solid_spec.specs.Surface.{mapped}
-use Rattle.solid_spec.proofs.SurfaceGrids.{cartesian-chart, cylindrical-chart}
+use Rattle.surface_spec.specs.Surface.{mapped}
+use Rattle.surface_spec.proofs.SurfaceGrids.{cartesian-chart, cylindrical-chart}
 
 pub cylindrical-runs : (full : Bool) (lo hi high : Vec3) (segments n : ℕ) (h r : Held) → high ≡ turnedTo full lo hi → n ≡ arcSegments segments (sub binary64 (high .y) (lo .y))
     → Runs (paramBox lo high (three 1 n 1) (three false full false) (mapped Cylindrical)) h r → Runs (cylindricalBox full lo hi segments) h r

@@ -13,14 +13,14 @@ use Rattle.surface.specs.Within.{FaceWithin}
 use Rattle.surface.specs.declared.turns.Turns.the-variants.{OnLine}
 use Rattle.surface.specs.Turns.{Filled, Tabled}
 use Rattle.surface.proofs.Surfaces.{face-tabled}
-use Rattle.solid_spec.specs.declared.Line.{Line}
-use Rattle.solid_spec.specs.declared.Chart.{Chart}
-use Rattle.solid_spec.specs.declared.Chart.the-variants.{Cartesian, Cylindrical, Around}
-use Rattle.solid_spec.specs.declared.Surface.the-variants.{Face}
+use Rattle.surface_spec.specs.declared.Line.{Line}
+use Rattle.surface_spec.specs.declared.Chart.{Chart}
+use Rattle.surface_spec.specs.declared.Chart.the-variants.{Cartesian, Cylindrical, Around}
+use Rattle.surface_spec.specs.declared.Surface.the-variants.{Face}
 use Rattle.solid_spec.specs.Grid.{Soup, grid}
 use Rattle.solid_spec.specs.ParamBox.{three, face, faces, paramBox}
-use Rattle.solid_spec.specs.Surface.{mapped, lineOf, surfaceAt}
-use Rattle.solid_spec.proofs.SurfaceGrids.{face-surface}
+use Rattle.surface_spec.specs.Surface.{mapped, lineOf, surfaceAt}
+use Rattle.surface_spec.proofs.SurfaceGrids.{face-surface}
 use Rattle.mesh_balance_spec.specs.Grid.{upto}
 use Rattle.mesh_balance_spec.specs.Buffer.{upto-more}
 use Rattle.surface_box.specs.Faces.{isHigh, hasFace}

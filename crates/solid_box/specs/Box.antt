@@ -4,12 +4,12 @@ use mathlib.Core.List.{List, []}
 use Prim.Native.Nat.{ℕ, _/_, _≤_, _<_}
 use lib.Ieee.{Float}
 use Rattle.math.specs.declared.Vec3.{Vec3}
-use Rattle.solid_spec.specs.declared.Line.{Line}
-use Rattle.solid_spec.specs.declared.Chart.{Chart}
-use Rattle.solid_spec.specs.declared.Chart.the-variants.{Cartesian, Cylindrical, Around}
+use Rattle.surface_spec.specs.declared.Line.{Line}
+use Rattle.surface_spec.specs.declared.Chart.{Chart}
+use Rattle.surface_spec.specs.declared.Chart.the-variants.{Cartesian, Cylindrical, Around}
 use Rattle.solid_spec.specs.Grid.{Soup}
 use Rattle.solid_spec.specs.ParamBox.{three, face}
-use Rattle.solid_spec.specs.Surface.{lineOf}
+use Rattle.surface_spec.specs.Surface.{lineOf}
 use Rattle.surface.specs.declared.turns.Turns.the-variants.{OnLine}
 use Rattle.surface.specs.Turns.{Filled}
 use Rattle.surface_box.specs.Faces.{isHigh, hasFace}

@@ -5,8 +5,8 @@ ghost use Rattle.solid_spec.specs.Boxes as Boxes;
 use crate::faces;
 use crate::flat;
 use math::Vec3;
-use solid_spec::Chart;
 use surface::Turns;
+use surface_spec::Chart;
 use weld::Welder;
 
 fn weld_cylindrical_box(

@@ -5,11 +5,11 @@ ghost use lib.ListN.{length};
 ghost use Rattle.weld.specs.Rep.{held, Ready, Runs};
 ghost use Rattle.solid_spec.specs.ParamBox as Box;
 ghost use Rattle.solid_spec.specs.ParamBox.{three};
-ghost use Rattle.solid_spec.specs.Surface.{mapped};
+ghost use Rattle.surface_spec.specs.Surface.{mapped};
 ghost use Rattle.solid_box.specs.Box.{BoxWithin, faceOf};
 use math::Vec3;
-use solid_spec::Chart;
-use solid_spec::Surface;
+use surface_spec::Chart;
+use surface_spec::Surface;
 use weld::Welder;
 
 // Face f, if it is there.

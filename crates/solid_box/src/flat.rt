@@ -2,10 +2,10 @@
 ghost use mathlib.Core.Bool.{false};
 ghost use Prim.Native.Nat.{_<_};
 ghost use Rattle.weld.specs.Rep.{held, Ready, Runs};
-ghost use Rattle.solid_spec.specs.declared.Chart.the-variants.{Cartesian};
+ghost use Rattle.surface_spec.specs.declared.Chart.the-variants.{Cartesian};
 ghost use Rattle.solid_spec.specs.ParamBox as Box;
 ghost use Rattle.solid_spec.specs.ParamBox.{three};
-ghost use Rattle.solid_spec.specs.Surface.{mapped};
+ghost use Rattle.surface_spec.specs.Surface.{mapped};
 ghost use Rattle.solid_box.specs.Box.{faceOf};
 use math::Vec3;
 use weld::Welder;

@@ -4,11 +4,11 @@ ghost use lib.ListN.{length};
 ghost use Rattle.weld.specs.Rep.{held, Ready, Runs};
 ghost use Rattle.surface.specs.Within.{Within};
 ghost use Rattle.surface.specs.Turns.{Tabled};
-ghost use Rattle.solid_spec.specs.Surface.{surfaceAt};
+ghost use Rattle.surface_spec.specs.Surface.{surfaceAt};
 ghost use Rattle.solid_spec.specs.Grid as Grid;
 use crate::guesses;
 use math::Vec3;
-use solid_spec::Surface;
+use surface_spec::Surface;
 use weld::Welder;
 
 // The cells of row i. The last two points of a cell are the first two of the next, where their numbers are known. `numbers` has

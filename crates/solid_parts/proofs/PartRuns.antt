@@ -12,7 +12,8 @@ use Rattle.weld.specs.declared.Welder.{Welder}
 use Rattle.weld.specs.Rep.{Held, held, Ready, Runs, Parted}
 use Rattle.weld.specs.Runs.{runs-as}
 use Rattle.solid_spec.specs.Grid.{Soup}
-use Rattle.solid_spec.specs.Boxes.{parts, pointAt, boxShape, multiBoxParts}
+use Rattle.solid_spec.specs.Boxes.{parts, boxShape, multiBoxParts}
+use Rattle.mesh_spec.specs.Slices.{vertexAt}
 use Rattle.solid_spec.specs.Sphere.{sphere}
 use Rattle.solid_spec.specs.Cylinder.{cylinder}
 use Rattle.solid_spec.specs.Wire.{wirePoint, wireTubes, wireJoints, wireParts}
@@ -32,7 +33,7 @@ module _ (f : ℕ → Soup) where
 module _ (cylindrical : Bool) (v : List Float) (segments : ℕ) where
   -- box i of a multi-box
   abbrev pub boxAt : ℕ → Soup
-  boxAt i = boxShape (pointAt v (2 * i)) (pointAt v (2 * i + 1)) cylindrical segments
+  boxAt i = boxShape (vertexAt v (2 * i)) (vertexAt v (2 * i + 1)) cylindrical segments
 
   pub boxes-all : (i : ℕ) (h k : Held) → i ≡ length v / 6 → PartsRun (parts i boxAt) h k → PartsRun (multiBoxParts cylindrical v segments) h k
   unfolding multiBoxParts
@@ -67,11 +68,11 @@ module _ (cylindrical : Bool) (v : List Float) (segments : ℕ) where
 
 module _ (v : List Float) (i : ℕ) (cylindrical : Bool) (segments : ℕ) (h : Held) (w r : Welder) (vs : List Float) (ts ws : List ℕ) where
   -- a box, a tube, a joint, each as a part
-  pub box-part : (a b : Vec3) → a ≡ pointAt v (2 * i) → b ≡ pointAt v (2 * i + 1) → Runs (boxShape a b cylindrical segments) h (held w vs ts ws) → Parted w r
-      → PartsRun (boxShape (pointAt v (2 * i)) (pointAt v (2 * i + 1)) cylindrical segments ∷ []) h (held r vs ts ws)
+  pub box-part : (a b : Vec3) → a ≡ vertexAt v (2 * i) → b ≡ vertexAt v (2 * i + 1) → Runs (boxShape a b cylindrical segments) h (held w vs ts ws) → Parted w r
+      → PartsRun (boxShape (vertexAt v (2 * i)) (vertexAt v (2 * i + 1)) cylindrical segments ∷ []) h (held r vs ts ws)
   box-part a b p q R P =
       parts-one (boxAt cylindrical v segments i) h w r vs ts ws
-      (runs-as (ap (λ (x : Vec3). boxShape x b cylindrical segments) p ∙ ap (λ (x : Vec3). boxShape (pointAt v (2 * i)) x cylindrical segments) q) R) P
+      (runs-as (ap (λ (x : Vec3). boxShape x b cylindrical segments) p ∙ ap (λ (x : Vec3). boxShape (vertexAt v (2 * i)) x cylindrical segments) q) R) P
 
   pub tube-part : (a b : Vec3) (radius : Float) → a ≡ wirePoint cylindrical v i → b ≡ wirePoint cylindrical v (i + 1) → Runs (cylinder a b plusZero radius segments) h (held w vs ts ws)
       → Parted w r → PartsRun (cylinder (wirePoint cylindrical v i) (wirePoint cylindrical v (i + 1)) plusZero radius segments ∷ []) h (held r vs ts ws)

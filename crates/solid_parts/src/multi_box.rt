@@ -4,23 +4,10 @@ ghost use mathlib.Core.List.{[], _∷_};
 ghost use Prim.Native.Nat.{_+_, _-_, _*_, _/_, _≤_, _<_};
 ghost use lib.ListN.{length};
 ghost use Rattle.weld.specs.Rep.{held, Ready};
-ghost use Rattle.solid_spec.specs.Boxes.{pointAt, boxShape, multiBoxParts};
+ghost use Rattle.solid_spec.specs.Boxes.{boxShape, multiBoxParts};
+ghost use Rattle.mesh_spec.specs.Slices.{vertexAt};
 ghost use Rattle.solid_parts.specs.Parts.{PartsRun};
-use math::Vec3;
 use weld::Welder;
-
-// Point i of a lent list, three floats a point.
-pub fn point_at(list: &[f64], i: usize) -> Vec3
-    requires { ⌜ 3 * i + 3 ≤ length (now list) ⌝ }
-    ensures { λ r. ⌜ r ≡ pointAt (now (list .entry)) i ⌝ }
-{
-    let k = 3 * i;
-    Vec3 {
-        x: list[k],
-        y: list[k + 1],
-        z: list[k + 2],
-    }
-}
 
 // Box i of a multi-box is a part.
 fn weld_box_part(
@@ -35,12 +22,12 @@ fn weld_box_part(
 ) -> Welder
     requires { ⌜ Ready (held w (now vertices) (now triangles) (now work)) ⌝ }
     requires { ⌜ (segments ≤ 1024) × (6 * i + 6 ≤ length (now list)) ⌝ }
-    ensures { λ r. ⌜ PartsRun (boxShape (pointAt (now (list .entry)) (2 * i)) (pointAt (now (list .entry)) (2 * i + 1)) cylindrical segments ∷ [])
+    ensures { λ r. ⌜ PartsRun (boxShape (vertexAt (now (list .entry)) (2 * i)) (vertexAt (now (list .entry)) (2 * i + 1)) cylindrical segments ∷ [])
         (held w (now (vertices .entry)) (now (triangles .entry)) (now (work .entry)))
         (held r (now (vertices .exit)) (now (triangles .exit)) (now (work .exit))) ⌝ }
 {
-    let a = point_at(list, 2 * i);
-    let b = point_at(list, 2 * i + 1);
+    let a = mesh_triples::vertex(list, 2 * i);
+    let b = mesh_triples::vertex(list, 2 * i + 1);
     let boxed = solid_box::weld_box_shape(
         vertices,
         triangles,

@@ -10,7 +10,6 @@ ghost use Rattle.solid_spec.specs.Sphere.{sphere};
 ghost use Rattle.solid_spec.specs.Cylinder.{cylinder};
 ghost use Rattle.solid_spec.specs.Wire.{wirePoint, wireTubes, wireJoints, wireParts};
 ghost use Rattle.solid_parts.specs.Parts.{PartsRun};
-use crate::multi_box::point_at;
 use math::Vec3;
 use weld::Welder;
 
@@ -19,7 +18,7 @@ fn wire_point(list: &[f64], i: usize, cylindrical: bool) -> Vec3
     requires { ⌜ 3 * i + 3 ≤ length (now list) ⌝ }
     ensures { λ r. ⌜ r ≡ wirePoint cylindrical (now (list .entry)) i ⌝ }
 {
-    surface_coords::to_cartesian(point_at(list, i), cylindrical)
+    surface_coords::to_cartesian(mesh_triples::vertex(list, i), cylindrical)
 }
 
 // The tube from point i to the next is a part.
@@ -42,7 +41,7 @@ fn weld_tube_part(
 {
     let a = wire_point(list, i, cylindrical);
     let b = wire_point(list, i + 1, cylindrical);
-    let tube = solid_round::weld_cylinder(vertices, triangles, work, w, a, b, 0.0, r, segments);
+    let tube = solid_cylinder::weld_cylinder(vertices, triangles, work, w, a, b, 0.0, r, segments);
     let part = weld::new_part(tube);
     part
 }
@@ -67,7 +66,7 @@ fn weld_joint_part(
         (held k (now (vertices .exit)) (now (triangles .exit)) (now (work .exit))) ⌝ }
 {
     let c = wire_point(list, i, cylindrical);
-    let joint = solid_round::weld_sphere(
+    let joint = solid_sphere::weld_sphere(
         vertices,
         triangles,
         work,

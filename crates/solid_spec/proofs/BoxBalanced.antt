@@ -15,7 +15,6 @@ use Rattle.shape.specs.Arc.{arcSegments, isFull}
 use Rattle.solid_spec.specs.ParamBox.{three, paramBox}
 use Rattle.solid_spec.specs.Coords.{cylindricalToCartesian}
 use Rattle.solid_spec.specs.Boxes.{asIs, turnedTo, cylindricalBox, boxShape, boxSoup}
-use Rattle.solid_spec.proofs.Points.{FiniteV, FitsV}
 use Rattle.solid_spec.proofs.Every.{Sound, sound-of}
 use Rattle.solid_spec.proofs.Closes.{Closes}
 use Rattle.solid_spec.proofs.Coord.{Axis}
@@ -23,16 +22,7 @@ use Rattle.solid_spec.proofs.Unequal.{ends-unequal, minimum-fits}
 use Rattle.shape.specs.ArcLaws.{arcSegments-some, arcSegments-few}
 use Rattle.solid_spec.proofs.ParamBoxBalanced.{six-faces, four-faces}
 use Rattle.solid_spec.proofs.Maps.{asIs-respects, asIs-shows, cylindrical-respects, cylindrical-shows}
-
--- two ends of a box as given: floats of the format, finite, and unequal as floats on each axis
-pub record Bounded (a b : Vec3) : Type 0 where
-  pub fits-a : FitsV a
-  pub fits-b : FitsV b
-  pub finite-a : FiniteV a
-  pub finite-b : FiniteV b
-  pub unequal-x : eq (a .x) (b .x) ≡ false
-  pub unequal-y : eq (a .y) (b .y) ≡ false
-  pub unequal-z : eq (a .z) (b .z) ≡ false
+use Rattle.solid_spec.specs.Fits.{Bounded}
 
 module _ (a b : Vec3) (g : Bounded a b) where
   apart-x : eq (vMax a b .x) (vMin a b .x) ≡ false

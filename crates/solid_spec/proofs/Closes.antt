@@ -5,8 +5,8 @@ use mathlib.Core.Bool.{Bool, true, false, cond}
 use Rattle.mesh_balance_spec.specs.Soup.{Balanced, mapTri, balanced-append}
 use Rattle.mesh_spec.specs.Mesh.{plusZeroV}
 use Rattle.solid_spec.specs.Grid.{Soup}
-use Rattle.solid_spec.proofs.Points.{FiniteV}
 use Rattle.solid_spec.proofs.Every.{Sound, every-left, every-right, map-append}
+use Rattle.solid_spec.specs.Fits.{FiniteV}
 
 abbrev pub Closes : Soup → Type 0
 Closes ts = Balanced (map (mapTri plusZeroV) ts)

@@ -15,7 +15,8 @@ use Rattle.mesh_balance_spec.specs.Grid.{quad, upto, upto-cong, cells₁-cells,
 use Rattle.math.specs.Vec.{vFinite}
 use Rattle.mesh_spec.specs.Mesh.{everyFinite}
 use Rattle.solid_spec.specs.Grid.{Soup, grid}
-use Rattle.solid_spec.proofs.Points.{FiniteV, finite-says}
+use Rattle.solid_spec.proofs.Points.{finite-says}
+use Rattle.solid_spec.specs.Fits.{FiniteV}
 
 module _ {P : Type 0} where
   abbrev pub Every : (P → Type 0) → List (Tri P) → Type 0

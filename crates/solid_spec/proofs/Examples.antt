@@ -19,9 +19,9 @@ use Rattle.solid_spec.specs.Coords.{toCartesian}
 use Rattle.solid_spec.specs.Sphere.{latitude, longitude, onSphere, spherePoint, sphere, sphereSoup}
 use Rattle.shape.specs.Arc.{countedSpan, arcShare, arcSegments, fullSpan, isFull}
 use Rattle.solid_spec.specs.Boxes.{turnedTo, cylindricalBox, boxShape, boxSoup}
-use Rattle.solid_spec.proofs.Points.{FitsV}
 use Rattle.solid_spec.proofs.SphereBalanced.{sphereSoup-balanced}
-use Rattle.solid_spec.proofs.BoxBalanced.{Bounded, boxSoup-balanced}
+use Rattle.solid_spec.proofs.BoxBalanced.{boxSoup-balanced}
+use Rattle.solid_spec.specs.Fits.{FitsV, Bounded}
 
 -- (P) a sphere of radius 0: nothing
 pub no-sphere : (c : Vec3) (segments rings : ℕ) → sphereSoup false c plusZero segments rings ≡ []

@@ -12,6 +12,5 @@ pub mod BoxBalanced
 pub mod PartsBalanced
 pub mod Sides
 pub mod OutlineBalanced
-pub mod SurfaceGrids
 pub mod PolygonsBalanced
 pub mod Examples

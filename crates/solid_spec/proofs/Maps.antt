@@ -15,8 +15,9 @@ use Rattle.math.specs.Vec.{vAdd, vMul}
 use Rattle.solid_spec.specs.Coords.{cylindricalToCartesian, toCartesian}
 use Rattle.solid_spec.specs.Cylinder.{aroundAxis}
 use Rattle.solid_spec.specs.Boxes.{asIs}
-use Rattle.solid_spec.proofs.Points.{FitsV, sameV-refl, vAdd-same, vMul-same}
+use Rattle.solid_spec.proofs.Points.{sameV-refl, vAdd-same, vMul-same}
 use Rattle.solid_spec.proofs.ParamBoxBalanced.{Respects, Shows}
+use Rattle.solid_spec.specs.Fits.{FitsV}
 
 -- an angle with a finite cosine is finite
 cos-finite : (x : Float) → T (finite (sinCos x .cos)) → T (finite x)

@@ -18,8 +18,7 @@ use Rattle.mesh_balance_spec.specs.Prism.{cycle}
 use Rattle.mesh_spec.specs.Mesh.{plusZeroV}
 use Rattle.shape.specs.Arc.{arcSegments, isFull}
 use Rattle.solid_spec.specs.Grid.{Soup, grid}
-use Rattle.solid_spec.specs.Outline.{cornerAt, caps, extrudedSides, extrudedFrom, angle, spun, turnedAt, turnedSides, turnedFrom, rotatedFrom}
-use Rattle.solid_spec.specs.Surface.{height}
+use Rattle.solid_spec.specs.Outline.{cornerAt, caps, extrudedSides, extrudedFrom, angle, spun, turnedAt, turnedSides, turnedFrom, rotatedFrom, height}
 use Rattle.solid_spec.proofs.Closes.{Closes, nothing-closes}
 use Rattle.solid_spec.proofs.Sides.{ring, sides-grid, walls-grid, sides-wrapped, sides-caps, caps-walls}
 

@@ -16,10 +16,11 @@ use Rattle.mesh_balance_spec.specs.Box.{box, fourFaces, axis0, axis1, axis2, bo
 use Rattle.mesh_spec.specs.Mesh.{plusZeroV}
 use Rattle.solid_spec.specs.Grid.{Soup, grid}
 use Rattle.solid_spec.specs.ParamBox.{three, coord, facePoint, faceAt, face, faces, paramBox}
-use Rattle.solid_spec.proofs.Points.{SameV, FiniteV, plusZeroV-same}
+use Rattle.solid_spec.proofs.Points.{SameV, plusZeroV-same}
 use Rattle.solid_spec.proofs.Every.{Sound, every-left, every-right, every-grid, map-append, map-plain, map-turned}
 use Rattle.solid_spec.proofs.Closes.{Closes}
 use Rattle.solid_spec.proofs.Coord.{Axis, coord-start, coord-end, coord-wrap, coord-span}
+use Rattle.solid_spec.specs.Fits.{FiniteV}
 
 -- points that are the same are sent to points that are the same
 abbrev pub Respects : (Vec3 → Vec3) → Type 0

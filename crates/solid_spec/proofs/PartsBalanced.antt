@@ -6,29 +6,20 @@ use Prim.Native.Nat.{ℕ, zero, suc, _+_, _-_, _*_, _/_, _≤_, _<_}
 use native.Mathlib.Omega.{arith}
 use lib.Dec.{T}
 use lib.ListN.{length, getD, length-append}
-use lib.Ieee.{Float, nan, binary64, lt, fits}
+use lib.Ieee.{Float, lt}
 use Rattle.ieee.specs.Number.{plusZero}
-use Rattle.mesh_balance_spec.specs.Soup.{Balanced, mapTri}
-use Rattle.mesh_spec.specs.Mesh.{plusZeroV, everyFinite}
+use Rattle.mesh_spec.specs.Slices.{vertexAt}
 use Rattle.solid_spec.specs.Grid.{Soup}
-use Rattle.solid_spec.specs.Boxes.{boxShape, parts, pointAt, multiBoxParts}
+use Rattle.solid_spec.specs.Boxes.{boxShape, parts, multiBoxParts}
 use Rattle.solid_spec.specs.Wire.{wirePoint, wireTubes, wireJoints, wireParts}
 use Rattle.solid_spec.specs.Sphere.{sphere}
 use Rattle.solid_spec.specs.Cylinder.{cylinder}
-use Rattle.solid_spec.proofs.Points.{FitsV}
+use Rattle.solid_spec.specs.Fits.{FitsV, FitsAll, Bounded}
+use Rattle.solid_spec.specs.BalancedParts.{EachPart, BalancedPart}
 use Rattle.solid_spec.proofs.Maps.{toCartesian-fits}
 use Rattle.solid_spec.proofs.SphereBalanced.{sphere-balanced}
 use Rattle.solid_spec.proofs.CylinderBalanced.{cylinder-balanced}
-use Rattle.solid_spec.proofs.BoxBalanced.{Bounded, boxShape-balanced}
-
--- what holds of every part
-abbrev pub EachPart : (Soup → Type 0) → List Soup → Type 0
-EachPart Q [] = T true
-EachPart Q (p ∷ ps) = Q p × EachPart Q ps
-
--- a part whose points are finite is balanced after + 0.0
-abbrev pub BalancedPart : Soup → Type 0
-BalancedPart p = everyFinite p ≡ true → Balanced (map (mapTri plusZeroV) p)
+use Rattle.solid_spec.proofs.BoxBalanced.{boxShape-balanced}
 
 each-append : (Q : Soup → Type 0) (ps qs : List Soup) → EachPart Q ps → EachPart Q qs → EachPart Q (ps ++ qs)
 each-append Q [] qs h k = k
@@ -45,7 +36,7 @@ length-parts (suc n) h = omega (arith, length-parts n h, length-append (parts n 
 
 pub multiBoxParts-count : (cylindrical : Bool) (v : List Float) (segments : ℕ) → length (multiBoxParts cylindrical v segments) ≡ length v / 6
 unfolding multiBoxParts
-multiBoxParts-count cylindrical v segments = length-parts (length v / 6) (λ i. boxShape (pointAt v (2 * i)) (pointAt v (2 * i + 1)) cylindrical segments)
+multiBoxParts-count cylindrical v segments = length-parts (length v / 6) (λ i. boxShape (vertexAt v (2 * i)) (vertexAt v (2 * i + 1)) cylindrical segments)
 
 -- a tube less than the points, and two spheres less
 pub wireParts-count : (cylindrical : Bool) (v : List Float) (r : Float) (segments rings : ℕ) → lt plusZero r ≡ true
@@ -58,13 +49,8 @@ wireParts-count cylindrical v r segments rings e = rw e (omega (
   length-parts (length v / 3 - 2) (λ i. sphere (wirePoint cylindrical v (i + 1)) r segments rings false),
 ))
 
--- the floats of a list are of the format, as those of a slice are
-abbrev pub FitsAll : List Float → Type 0
-FitsAll v = (i : ℕ) → T (fits binary64 (getD v i nan))
-
-pub pointAt-fits : (v : List Float) → FitsAll v → (i : ℕ) → FitsV (pointAt v i)
-unfolding pointAt
-pointAt-fits v f i = record { x = f (3 * i); y = f (3 * i + 1); z = f (3 * i + 2) }
+pub vertexAt-fits : (v : List Float) → FitsAll v → (i : ℕ) → FitsV (vertexAt v i)
+vertexAt-fits v f i = record { x = f (3 * i); y = f (3 * i + 1); z = f (3 * i + 2) }
 
 module _ (cylindrical : Bool) (v : List Float) (r : Float) (segments rings : ℕ) (few : segments ≤ 1024) (f : FitsAll v) where
   tubes-balanced : EachPart BalancedPart (wireTubes cylindrical v r segments)
@@ -75,7 +61,7 @@ module _ (cylindrical : Bool) (v : List Float) (r : Float) (segments rings : ℕ
 
   wirePoint-fits : (i : ℕ) → FitsV (wirePoint cylindrical v i)
   unfolding wirePoint
-  wirePoint-fits i = toCartesian-fits cylindrical (pointAt v i) (pointAt-fits v f i)
+  wirePoint-fits i = toCartesian-fits cylindrical (vertexAt v i) (vertexAt-fits v f i)
 
   joints-balanced : EachPart BalancedPart (wireJoints cylindrical v r segments rings)
   unfolding wireJoints
@@ -94,9 +80,9 @@ module _ (cylindrical : Bool) (v : List Float) (r : Float) (segments rings : ℕ
 
 -- the solid MultiBox
 pub multiBoxParts-balanced : (cylindrical : Bool) (v : List Float) (segments : ℕ) → segments ≤ 1024
-    → ((i : ℕ) → i < length v / 6 → Bounded (pointAt v (2 * i)) (pointAt v (2 * i + 1)))
+    → ((i : ℕ) → i < length v / 6 → Bounded (vertexAt v (2 * i)) (vertexAt v (2 * i + 1)))
     → EachPart BalancedPart (multiBoxParts cylindrical v segments)
 unfolding multiBoxParts
 multiBoxParts-balanced cylindrical v segments few g =
-    each-parts BalancedPart (length v / 6) (λ i. boxShape (pointAt v (2 * i)) (pointAt v (2 * i + 1)) cylindrical segments)
-    (λ i l. boxShape-balanced (pointAt v (2 * i)) (pointAt v (2 * i + 1)) cylindrical segments few (g i l))
+    each-parts BalancedPart (length v / 6) (λ i. boxShape (vertexAt v (2 * i)) (vertexAt v (2 * i + 1)) cylindrical segments)
+    (λ i l. boxShape-balanced (vertexAt v (2 * i)) (vertexAt v (2 * i + 1)) cylindrical segments few (g i l))

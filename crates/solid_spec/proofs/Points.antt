@@ -1,4 +1,4 @@
--- Points that are the same number for number, finite points, points of the format. `plusZeroV` of two points that are the same is one point.
+-- Points that are the same number for number, and finite points. `plusZeroV` of two points that are the same is one point.
 use mathlib.Core.Path.{_≡_, refl, sym, ap, _∙_}
 use mathlib.Core.Logic.{inl, inr}
 use Prim.Native.Nat.{ℕ, zero, suc, _*_}
@@ -6,31 +6,20 @@ use native.Mathlib.Nat.{zero-mul}
 use mathlib.Core.Bool.{Bool, true, false, _&&_}
 use lib.IntN.{pos}
 use lib.Dec.{T}
-use lib.Ieee.{Float, nan, inf, fin, Format, binary64, down, sum, add, ofBits, fits}
+use lib.Ieee.{Float, nan, inf, fin, Format, binary64, down, sum, add, ofBits}
 use lib.Ieee.Fits.{and-l, and-r}
-use lib.Ieee.Scale.{finite}
 use Rattle.ieee.specs.Number.{isZero, Same, plusZero}
 use Rattle.ieee.specs.Same.{round-zero, no-size, add-same, mul-same}
 use Rattle.math.specs.declared.Vec3.{Vec3}
 use Rattle.math.specs.Vec.{new, vAdd, vMul, vFinite}
 use Rattle.math.specs.Laws.{finite-x, finite-y, finite-z}
 use Rattle.mesh_spec.specs.Mesh.{plusZeroV}
+use Rattle.solid_spec.specs.Fits.{FiniteV}
 
 pub record SameV (p q : Vec3) : Type 0 where
   pub x : Same (p .x) (q .x)
   pub y : Same (p .y) (q .y)
   pub z : Same (p .z) (q .z)
-
-pub record FiniteV (p : Vec3) : Type 0 where
-  pub x : T (finite (p .x))
-  pub y : T (finite (p .y))
-  pub z : T (finite (p .z))
-
--- the coordinates are floats of the format, as those of a program are
-pub record FitsV (p : Vec3) : Type 0 where
-  pub x : T (fits binary64 (p .x))
-  pub y : T (fits binary64 (p .y))
-  pub z : T (fits binary64 (p .z))
 
 pub finite-says : (p : Vec3) → T (vFinite p) → FiniteV p
 finite-says p h = record { x = finite-x p h; y = finite-y p h; z = finite-z p h }

@@ -20,17 +20,13 @@ use Rattle.outline_caps_law.specs.Caps as Cap
 use Rattle.mesh_spec.specs.Mesh.{plusZeroV}
 use Rattle.shape.specs.Arc.{isFull}
 use Rattle.solid_spec.specs.Outline.{extrudedFrom, rotatedFrom}
-use Rattle.solid_spec.specs.Polygons.{capTriangles, extrudedPolygon, lowEnd, highEnd, linPolySoup, radialAxis, swaps, rotpoly, rotPolySoup}
+use Rattle.solid_spec.specs.Polygons.{capTriangles, extrudedPolygon, lowEnd, highEnd, linPolySoup, radialAxis, swaps, rotpoly, rotPolySoup, capCount}
 use Rattle.solid_spec.proofs.Closes.{Closes, nothing-closes}
 use Rattle.solid_spec.proofs.OutlineBalanced.{extrudedFrom-closes, rotatedFrom-closes}
 
 -- the number of corners
 abbrev pub corners : List Float → ℕ
 corners v = length v / 2
-
--- how many corner numbers the cap triangles have, three each
-abbrev pub capCount : List Float → ℕ
-capCount p = length (triangulatePolygon p .triangles)
 
 -- `ccw_polygon` keeps the number of corners that `clean_polygon` leaves
 half : (n : ℕ) → 2 * (n / 2) / 2 ≡ n / 2

@@ -23,10 +23,11 @@ use Rattle.mesh_spec.specs.Mesh.{plusZeroV, everyFinite}
 use Rattle.solid_spec.specs.Grid.{grid}
 use Rattle.solid_spec.specs.Coords.{toCartesian}
 use Rattle.solid_spec.specs.Sphere.{latitude, longitude, onSphere, spherePoint, sphere, half, sphereSoup, sphericalShellSoup}
-use Rattle.solid_spec.proofs.Points.{SameV, FiniteV, FitsV, plusZeroV-same}
+use Rattle.solid_spec.proofs.Points.{SameV, plusZeroV-same}
 use Rattle.solid_spec.proofs.Every.{Sound, sound-of, every-grid, balanced-grid, map-grid}
 use Rattle.solid_spec.proofs.Closes.{Closes, unless, with-another}
 use Rattle.solid_spec.proofs.Maps.{toCartesian-fits}
+use Rattle.solid_spec.specs.Fits.{FiniteV, FitsV}
 
 -- a pole: the sine +0.0
 abbrev poleAt : Float → SinCos

@@ -2,11 +2,12 @@
 use mathlib.Core.List.{List, [], _∷_, _++_}
 use mathlib.Core.Bool.{Bool, false, cond}
 use Prim.Native.Nat.{ℕ, zero, suc, _+_, _*_, _/_}
-use lib.ListN.{length, getD}
-use lib.Ieee.{Float, nan, binary64, add, sub}
+use lib.ListN.{length}
+use lib.Ieee.{Float, binary64, add, sub}
 use Rattle.ieee.specs.Number.{tau}
 use Rattle.math.specs.declared.Vec3.{Vec3}
 use Rattle.math.specs.Vec.{new, vMin, vMax}
+use Rattle.mesh_spec.specs.Slices.{vertexAt}
 use Rattle.shape.specs.Arc.{arcSegments, isFull}
 use Rattle.solid_spec.specs.Grid.{Soup}
 use Rattle.solid_spec.specs.ParamBox.{three, paramBox}
@@ -43,10 +44,6 @@ abbrev pub parts : ℕ → (ℕ → Soup) → List Soup
 parts zero h = []
 parts (suc n) h = parts n h ++ (h n ∷ [])
 
--- point i of a lent list, three floats a point
-unfoldable pub pointAt : List Float → ℕ → Vec3
-pointAt v i = new (getD v (3 * i) nan) (getD v (3 * i + 1) nan) (getD v (3 * i + 2) nan)
-
 -- the case MultiBox: each box, two points of the lent list, is a part, in the default system
 unfoldable pub multiBoxParts : Bool → List Float → ℕ → List Soup
-multiBoxParts cylindrical v segments = parts (length v / 6) (λ i. boxShape (pointAt v (2 * i)) (pointAt v (2 * i + 1)) cylindrical segments)
+multiBoxParts cylindrical v segments = parts (length v / 6) (λ i. boxShape (vertexAt v (2 * i)) (vertexAt v (2 * i + 1)) cylindrical segments)

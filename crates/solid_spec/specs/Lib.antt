@@ -8,4 +8,5 @@ pub mod Boxes
 pub mod Wire
 pub mod Outline
 pub mod Polygons
-pub mod Surface
+pub mod Fits
+pub mod BalancedParts

@@ -2,7 +2,7 @@
 -- Definitions only.
 use mathlib.Core.List.{List, [], _∷_, _++_, map}
 use mathlib.Core.Bool.{Bool, true, false, cond}
-use Prim.Native.Nat.{ℕ, _+_, _/_, _%_}
+use Prim.Native.Nat.{ℕ, zero, suc, _+_, _/_, _%_}
 use lib.IntN.{pos}
 use lib.Dec.{ltb}
 use lib.ListN.{length}
@@ -32,6 +32,11 @@ caps near far (t ∷ ts) = mapTri near t ∷ flip (mapTri far t) ∷ caps near f
 -- the `at(i, h)` of `extruded_polygon`
 abbrev pub cornerAt : ℕ → List Float → ℕ → Float → Vec3
 cornerAt n p i h = planePoint n (point p i) h
+
+-- the end of an extruded outline by its number: 0 is lo, any other is hi
+unfoldable pub height : Float → Float → ℕ → Float
+height lo hi zero = lo
+height lo hi (suc k) = hi
 
 -- the last loop of `extruded_polygon`: a quad over each side
 unfoldable pub extrudedSides : ℕ → List Float → Float → Float → Soup

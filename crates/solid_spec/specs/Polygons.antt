@@ -4,6 +4,7 @@ use mathlib.Core.List.{List, []}
 use mathlib.Core.Bool.{Bool, cond, not, _&&_}
 use Prim.Native.Nat.{ℕ, _-_, min}
 use lib.Dec.{eqb, ltb}
+use lib.ListN.{length}
 use lib.Ieee.{Float, binary64, add}
 use Rattle.ieee.specs.Number.{minimum, maximum}
 use Rattle.mesh_balance_spec.specs.Soup.{Tri}
@@ -17,6 +18,10 @@ use Rattle.solid_spec.specs.Outline.{extrudedFrom, rotatedFrom}
 -- the triangles of `triangulate_polygon`, each as three corner numbers
 unfoldable pub capTriangles : List Float → List (Tri ℕ)
 capTriangles p = tris (triangulatePolygon p .triangles)
+
+-- how many corner numbers the cap triangles have, three each
+abbrev pub capCount : List Float → ℕ
+capCount p = length (triangulatePolygon p .triangles)
 
 -- the ends of a LinPoly: `e.min(e + l)` and `e.max(e + l)`
 abbrev pub lowEnd : Float → Float → Float

@@ -10,11 +10,12 @@ use Rattle.solid_spec.specs.Grid.{Soup}
 use Rattle.solid_spec.specs.Coords.{toCartesian}
 use Rattle.solid_spec.specs.Sphere.{sphere}
 use Rattle.solid_spec.specs.Cylinder.{cylinder}
-use Rattle.solid_spec.specs.Boxes.{parts, pointAt}
+use Rattle.mesh_spec.specs.Slices.{vertexAt}
+use Rattle.solid_spec.specs.Boxes.{parts}
 
 -- point i of a wire's lent list, three floats a point, converted
 unfoldable pub wirePoint : Bool → List Float → ℕ → Vec3
-wirePoint cylindrical v i = toCartesian cylindrical (pointAt v i)
+wirePoint cylindrical v i = toCartesian cylindrical (vertexAt v i)
 
 -- a tube for each two consecutive points, `pts.windows(2)`
 unfoldable pub wireTubes : Bool → List Float → Float → ℕ → List Soup

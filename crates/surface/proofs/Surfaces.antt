@@ -9,20 +9,20 @@ use lib.Ieee.{Float}
 use Rattle.trig.specs.declared.SinCos.{SinCos}
 use Rattle.trig.specs.Trig.{sinCos}
 use Rattle.math.specs.declared.Vec3.{Vec3}
-use Rattle.solid_spec.specs.declared.Line.{Line}
-use Rattle.solid_spec.specs.declared.Chart.{Chart}
-use Rattle.solid_spec.specs.declared.Chart.the-variants.{Cartesian, Cylindrical, Around}
-use Rattle.solid_spec.specs.declared.Surface.{Surface}
-use Rattle.solid_spec.specs.declared.Surface.the-variants.{Face, Sphere, Extruded, Rotated}
+use Rattle.surface_spec.specs.declared.Line.{Line}
+use Rattle.surface_spec.specs.declared.Chart.{Chart}
+use Rattle.surface_spec.specs.declared.Chart.the-variants.{Cartesian, Cylindrical, Around}
+use Rattle.surface_spec.specs.declared.Surface.{Surface}
+use Rattle.surface_spec.specs.declared.Surface.the-variants.{Face, Sphere, Extruded, Rotated}
 use Rattle.solid_spec.specs.ParamBox.{facePoint}
 use Rattle.solid_spec.specs.Coords.{cylindricalToCartesian}
 use Rattle.solid_spec.specs.Cylinder.{aroundAxis}
 use Rattle.solid_spec.specs.Sphere.{spherePoint, onSphere}
-use Rattle.solid_spec.specs.Surface.{mapped, lineAt, surfaceAt}
-use Rattle.surface.specs.declared.surface.Polar.{Polar}
+use Rattle.surface_spec.specs.Surface.{mapped, lineAt, surfaceAt}
+use Rattle.surface.specs.declared.point.Polar.{Polar}
 use Rattle.surface.specs.declared.turns.Turns.{Turns}
 use Rattle.surface.specs.declared.turns.Turns.the-variants.{Latitudes, Longitudes, OnLine, Angles}
-use Rattle.surface_coords.specs.Pieces.{turned, cylindricalBy, aroundAxisBy}
+use Rattle.surface_coords.specs.Pieces.{inFrame, cylindricalBy, aroundAxisBy}
 use Rattle.surface.specs.Pieces.{polarOn, onFace, onExtruded, onRotated}
 use Rattle.surface.specs.Within.{FaceWithin, SphereWithin, ExtrudedWithin, RotatedWithin, Within}
 use Rattle.surface.specs.Turns.{turnAt, entry, Filled, RoundTabled, Tabled}
@@ -44,7 +44,7 @@ module _ (h : Chart) (k : ℕ) (val : Float) (u v : Line) (i j : ℕ) where
   face-cylindrical p r e q x = x ∙ ap (λ (y : Polar). cylindricalBy (y .t) (y .x) (y .z)) q ∙ ap (λ (t : Chart). onFace t k val u v i j) (sym e)
 
   pub face-around : (a d e1 e2 : Vec3) (p : Polar) (r : Vec3) → h ≡ Around a d e1 e2 → p ≡ polarOn k val u v i j → r ≡ aroundAxisBy a d e1 e2 (p .t) (p .x) (p .z) → r ≡ onFace h k val u v i j
-  unfolding onFace mapped aroundAxis aroundAxisBy turned polarOn
+  unfolding onFace mapped aroundAxis aroundAxisBy inFrame polarOn
   face-around a d e1 e2 p r e q x =
       x ∙ ap (λ (y : Polar). aroundAxisBy a d e1 e2 (y .t) (y .x) (y .z)) q ∙ ap (λ (t : Chart). onFace t k val u v i j) (sym e)
 

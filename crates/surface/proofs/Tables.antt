@@ -11,10 +11,10 @@ use lib.Seq.{getD-set-same, getD-set-other}
 use lib.Ieee.{Float, nan}
 use Rattle.trig.specs.declared.SinCos.{SinCos}
 use Rattle.trig.specs.Trig.{sinCos}
-use Rattle.solid_spec.specs.declared.Line.{Line}
+use Rattle.surface_spec.specs.declared.Line.{Line}
 use Rattle.solid_spec.specs.Sphere.{latitude, longitude}
 use Rattle.solid_spec.specs.Outline.{angle}
-use Rattle.solid_spec.specs.Surface.{lineAt}
+use Rattle.surface_spec.specs.Surface.{lineAt}
 use Rattle.surface.specs.declared.turns.Turns.{Turns}
 use Rattle.surface.specs.declared.turns.Turns.the-variants.{Latitudes, Longitudes, OnLine, Angles}
 use Rattle.surface.specs.Turns.{turnAt, TurnsWithin, entry, Filled}

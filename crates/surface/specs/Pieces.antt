@@ -6,12 +6,12 @@ use Rattle.trig.specs.declared.SinCos.{SinCos}
 use Rattle.trig.specs.Trig.{sinCos}
 use Rattle.math.specs.declared.Vec3.{Vec3}
 use Rattle.outline.specs.Corners.{point}
-use Rattle.solid_spec.specs.declared.Line.{Line}
-use Rattle.solid_spec.specs.declared.Chart.{Chart}
+use Rattle.surface_spec.specs.declared.Line.{Line}
+use Rattle.surface_spec.specs.declared.Chart.{Chart}
 use Rattle.solid_spec.specs.ParamBox.{facePoint}
-use Rattle.solid_spec.specs.Outline.{planePoint, spun}
-use Rattle.solid_spec.specs.Surface.{mapped, lineAt, height}
-use Rattle.surface.specs.declared.surface.Polar.{Polar}
+use Rattle.solid_spec.specs.Outline.{planePoint, spun, height}
+use Rattle.surface_spec.specs.Surface.{mapped, lineAt}
+use Rattle.surface.specs.declared.point.Polar.{Polar}
 
 -- what `cylindricalToCartesian` and `aroundAxis` take from the point of a face on axis k
 unfoldable pub polarOn : ℕ → Float → Line → Line → ℕ → ℕ → Polar

@@ -6,14 +6,14 @@ use lib.ListN.{length, getD}
 use lib.Ieee.{Float, nan}
 use Rattle.trig.specs.declared.SinCos.{SinCos}
 use Rattle.trig.specs.Trig.{sinCos}
-use Rattle.solid_spec.specs.declared.Line.{Line}
-use Rattle.solid_spec.specs.declared.Chart.{Chart}
-use Rattle.solid_spec.specs.declared.Chart.the-variants.{Cartesian, Cylindrical, Around}
-use Rattle.solid_spec.specs.declared.Surface.{Surface}
-use Rattle.solid_spec.specs.declared.Surface.the-variants.{Face, Sphere, Extruded, Rotated}
+use Rattle.surface_spec.specs.declared.Line.{Line}
+use Rattle.surface_spec.specs.declared.Chart.{Chart}
+use Rattle.surface_spec.specs.declared.Chart.the-variants.{Cartesian, Cylindrical, Around}
+use Rattle.surface_spec.specs.declared.Surface.{Surface}
+use Rattle.surface_spec.specs.declared.Surface.the-variants.{Face, Sphere, Extruded, Rotated}
 use Rattle.solid_spec.specs.Sphere.{latitude, longitude}
 use Rattle.solid_spec.specs.Outline.{angle}
-use Rattle.solid_spec.specs.Surface.{lineAt}
+use Rattle.surface_spec.specs.Surface.{lineAt}
 use Rattle.surface.specs.declared.turns.Turns.{Turns}
 use Rattle.surface.specs.declared.turns.Turns.the-variants.{Latitudes, Longitudes, OnLine, Angles}
 

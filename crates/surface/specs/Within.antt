@@ -3,9 +3,9 @@ use mathlib.Core.List.{List}
 use Prim.Native.Nat.{ℕ, _*_, _≤_, _<_}
 use lib.ListN.{length}
 use lib.Ieee.{Float}
-use Rattle.solid_spec.specs.declared.Line.{Line}
-use Rattle.solid_spec.specs.declared.Surface.{Surface}
-use Rattle.solid_spec.specs.declared.Surface.the-variants.{Face, Sphere, Extruded, Rotated}
+use Rattle.surface_spec.specs.declared.Line.{Line}
+use Rattle.surface_spec.specs.declared.Surface.{Surface}
+use Rattle.surface_spec.specs.declared.Surface.the-variants.{Face, Sphere, Extruded, Rotated}
 
 -- a face of a parameter box
 pub record FaceWithin (k : ℕ) (u v : Line) (i j : ℕ) : Type 0 where

@@ -3,7 +3,7 @@ ghost use mathlib.Core.Path.{_≡_};
 ghost use Prim.Native.Nat.{_+_, _*_, _≤_};
 ghost use lib.ListN.{length};
 ghost use Rattle.surface.specs.Turns.{turnAt, TurnsWithin, entry as entry·, Filled};
-use solid_spec::Line;
+use surface_spec::Line;
 use trig::SinCos;
 
 // A kind of sines and cosines by number: of a sphere's rows or segments, of an axis that is an angle, of a rotated outline's steps.
@@ -44,7 +44,7 @@ pub fn turn_at(t: Turns, k: usize) -> SinCos
 }
 
 // The entries 0 to n of a table in a slice.
-fn fill_entries(t: Turns, n: usize, table: &mut [f64])
+pub fn fill_entries(t: Turns, n: usize, table: &mut [f64])
     requires { ⌜ TurnsWithin t n ⌝ }
     requires { ⌜ 2 * n + 2 ≤ length (now table) ⌝ }
     ensures { λ _. ⌜ Filled t n (now (table .exit)) ⌝ }
@@ -62,14 +62,6 @@ fn fill_entries(t: Turns, n: usize, table: &mut [f64])
 pub fn fill_turns(t: Turns, n: usize, table: &mut [f64; 2050])
     requires { ⌜ (n ≤ 1024) × TurnsWithin t n ⌝ }
     ensures { λ _. ⌜ Filled t n (now (table .exit)) × (length (now (table .exit)) ≡ 2050) ⌝ }
-{
-    fill_entries(t, n, table);
-}
-
-// The entries 0 to n of a small table.
-pub fn fill_few(t: Turns, n: usize, table: &mut [f64; 130])
-    requires { ⌜ (n ≤ 64) × TurnsWithin t n ⌝ }
-    ensures { λ _. ⌜ Filled t n (now (table .exit)) × (length (now (table .exit)) ≡ 130) ⌝ }
 {
     fill_entries(t, n, table);
 }

@@ -2,9 +2,9 @@
 ghost use mathlib.Core.Path.{_≡_};
 ghost use Prim.Native.Nat.{_≤_, _<_};
 ghost use Rattle.solid_spec.specs.ParamBox as Box;
-ghost use Rattle.solid_spec.specs.Surface.{lineAt};
+ghost use Rattle.surface_spec.specs.Surface.{lineAt};
 use math::Vec3;
-use solid_spec::Line;
+use surface_spec::Line;
 
 // Grid line i of an axis from lo to hi in n parts. A periodic axis ends where it starts.
 pub fn coord(lo: f64, hi: f64, n: usize, periodic: bool, i: usize) -> f64

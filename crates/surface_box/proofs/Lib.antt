@@ -1,3 +1,3 @@
--- Laws that the proofs of `surface_box` use, and some of `solid_sweep`.
+-- Laws that the proofs of `surface_box` use.
 pub mod Choices
 pub mod OneQuad

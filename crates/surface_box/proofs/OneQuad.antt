@@ -7,10 +7,10 @@ use lib.Ieee.{Float}
 use Rattle.math.specs.declared.Vec3.{Vec3}
 use Rattle.math.specs.Vec.{axis}
 use Rattle.mesh_balance_spec.specs.Grid.{quadTurned}
-use Rattle.solid_spec.specs.declared.Chart.the-variants.{Cartesian}
+use Rattle.surface_spec.specs.declared.Chart.the-variants.{Cartesian}
 use Rattle.solid_spec.specs.Grid.{Soup, grid}
 use Rattle.solid_spec.specs.ParamBox.{three, coord, facePoint, face}
-use Rattle.solid_spec.specs.Surface.{mapped}
+use Rattle.surface_spec.specs.Surface.{mapped}
 use Rattle.surface_box.specs.declared.Four.{Four}
 use Rattle.surface_box.specs.Flat.{quadOf}
 

@@ -3,10 +3,10 @@ ghost use mathlib.Core.Path.{_≡_};
 ghost use mathlib.Core.Bool.{false, cond};
 ghost use Rattle.math.specs.Vec.{axis};
 ghost use Rattle.solid_spec.specs.ParamBox.{three};
-ghost use Rattle.solid_spec.specs.Surface.{lineOf};
+ghost use Rattle.surface_spec.specs.Surface.{lineOf};
 ghost use Rattle.surface_box.specs.Faces.{hasFace};
 use math::Vec3;
-use solid_spec::Line;
+use surface_spec::Line;
 
 // The parts of the axis k: n for the middle axis, 1 for the others.
 fn cuts(n: usize, k: usize) -> usize

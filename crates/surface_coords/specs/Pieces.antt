@@ -11,8 +11,8 @@ unfoldable pub beside : Vec3 → Vec3
 beside d = cond (lt (absolute (d .x)) (ofBits binary64 0x3FEC_CCCC_CCCC_CCCD)) (unit 0) (unit 1)
 
 -- `e1 * cs + e2 * sn` of `aroundAxis`
-unfoldable pub turned : Vec3 → Vec3 → Float → Float → Vec3
-turned e1 e2 cs sn = vAdd (vMul e1 cs) (vMul e2 sn)
+unfoldable pub inFrame : Vec3 → Vec3 → Float → Float → Vec3
+inFrame e1 e2 cs sn = vAdd (vMul e1 cs) (vMul e2 sn)
 
 -- `cylindricalToCartesian` after `let t`, of a point with the given x and z
 unfoldable pub cylindricalBy : SinCos → Float → Float → Vec3
@@ -20,4 +20,4 @@ cylindricalBy t x z = new (mul binary64 x (t .cos)) (mul binary64 x (t .sin)) z
 
 -- `aroundAxis` after `let t`, of a point with the given x and z
 unfoldable pub aroundAxisBy : Vec3 → Vec3 → Vec3 → Vec3 → SinCos → Float → Float → Vec3
-aroundAxisBy a d e1 e2 t x z = vAdd (vAdd a (vMul d z)) (vMul (turned e1 e2 (t .cos) (t .sin)) x)
+aroundAxisBy a d e1 e2 t x z = vAdd (vAdd a (vMul d z)) (vMul (inFrame e1 e2 (t .cos) (t .sin)) x)

@@ -59,8 +59,8 @@ pub fn frame2(d: Vec3) -> Vec3
 }
 
 // e1 * cs + e2 * sn.
-fn turned(e1: Vec3, e2: Vec3, cs: f64, sn: f64) -> Vec3
-    ensures { λ r. ⌜ r ≡ Pieces.turned e1 e2 cs sn ⌝ }
+fn in_frame(e1: Vec3, e2: Vec3, cs: f64, sn: f64) -> Vec3
+    ensures { λ r. ⌜ r ≡ Pieces.inFrame e1 e2 cs sn ⌝ }
 {
     math::add(math::mul(e1, cs), math::mul(e2, sn))
 }
@@ -70,5 +70,5 @@ pub fn around_axis_by(a: Vec3, d: Vec3, e1: Vec3, e2: Vec3, t: SinCos, x: f64, z
     ensures { λ r. ⌜ r ≡ Pieces.aroundAxisBy a d e1 e2 t x z ⌝ }
 {
     let along = math::add(a, math::mul(d, z));
-    math::add(along, math::mul(turned(e1, e2, t.cos, t.sin), x))
+    math::add(along, math::mul(in_frame(e1, e2, t.cos, t.sin), x))
 }

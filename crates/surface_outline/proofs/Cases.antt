@@ -9,8 +9,7 @@ use Rattle.ieee.specs.Number.{tau}
 use Rattle.math.specs.Vec.{new, withAxis}
 use Rattle.outline.specs.declared.Point.{Point}
 use Rattle.outline.specs.Axes.{planeAxes}
-use Rattle.solid_spec.specs.Outline.{planePoint, angle}
-use Rattle.solid_spec.specs.Surface.{height}
+use Rattle.solid_spec.specs.Outline.{planePoint, angle, height}
 
 -- planePoint
 module _ (n : ℕ) (c : Point) (h : Float) where

@@ -2,7 +2,6 @@
 ghost use mathlib.Core.Path.{_≡_};
 ghost use Prim.Native.Nat.{_≤_, _<_};
 ghost use Rattle.solid_spec.specs.Outline as Outline;
-ghost use Rattle.solid_spec.specs.Surface as Surface;
 ghost use Rattle.surface_outline.specs.Pieces as Pieces;
 use ieee::TAU;
 use math::Vec3;
@@ -37,7 +36,7 @@ pub fn plane_point(n: usize, c: Point, h: f64) -> Vec3
 
 // The end of an extruded outline by its number: 0 is lo, any other is hi.
 pub fn height(lo: f64, hi: f64, k: usize) -> f64
-    ensures { λ r. ⌜ r ≡ Surface.height lo hi k ⌝ }
+    ensures { λ r. ⌜ r ≡ Outline.height lo hi k ⌝ }
 {
     if k == 0 { lo } else { hi }
 }

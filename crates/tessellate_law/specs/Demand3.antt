@@ -17,7 +17,6 @@ use Rattle.mesh_spec.specs.ClosedLaws.{no-mesh-closed, append-closed, flip-clos
 use Rattle.mesh_spec.specs.ProperLaws.{append-none-twice, flip-none-twice, transform-none-twice, append-all-there, flip-all-there, transform-all-there}
 use Rattle.mesh_spec.specs.Welded.{fromSoup-proper}
 use Rattle.solid_spec.specs.Grid.{Soup}
-use Rattle.solid_spec.proofs.PartsBalanced.{EachPart}
 use Rattle.shape.specs.declared.Shape.{Shape}
 use Rattle.shape.specs.declared.Shape.the-variants.{Box, MultiBox, Sphere, SphericalShell, Cylinder, CylindricalShell, Polygon, LinPoly, RotPoly, Wire}
 use Rattle.shape.specs.Drawing.{cylindrical, shapeCs}
@@ -28,6 +27,7 @@ use Rattle.tessellate_spec.specs.Outcome.{Job, jobParts, weldedMesh, finalMesh}
 use Rattle.tessellate_law.specs.Words.{Accepts, left, given, FitsJob, Solid}
 use Rattle.tessellate_law.specs.AcceptedLaws.{accepted-says, given-final}
 use Rattle.tessellate_law.specs.PartsClosed.{parts-balanced, parts-closed}
+use Rattle.solid_spec.specs.BalancedParts.{EachPart}
 
 -- ---- the statement
 

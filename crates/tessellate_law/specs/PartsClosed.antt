@@ -25,14 +25,14 @@ use Rattle.mesh_spec.specs.Closed.{Closed}
 use Rattle.mesh_spec.specs.Welded.{fromSoup-closed}
 use Rattle.solid_spec.specs.Grid.{Soup}
 use Rattle.shape.specs.Arc.{isFull}
-use Rattle.solid_spec.specs.Boxes.{pointAt}
-use Rattle.solid_spec.specs.Polygons.{capTriangles, swaps}
-use Rattle.solid_spec.proofs.Points.{FiniteV, FitsV, finite-says}
-use Rattle.solid_spec.proofs.BoxBalanced.{Bounded, boxSoup-balanced}
+use Rattle.mesh_spec.specs.Slices.{vertexAt}
+use Rattle.solid_spec.specs.Polygons.{capTriangles, swaps, capCount}
+use Rattle.solid_spec.proofs.Points.{finite-says}
+use Rattle.solid_spec.proofs.BoxBalanced.{boxSoup-balanced}
 use Rattle.solid_spec.proofs.SphereBalanced.{sphereSoup-balanced, sphericalShellSoup-balanced}
 use Rattle.solid_spec.proofs.CylinderBalanced.{cylinderSoup-balanced, cylindricalShellSoup-balanced}
-use Rattle.solid_spec.proofs.PolygonsBalanced.{capCount, linPolySoup-balanced, rotPolySoup-balanced}
-use Rattle.solid_spec.proofs.PartsBalanced.{EachPart, BalancedPart, FitsAll, pointAt-fits, multiBoxParts-balanced, wireParts-balanced}
+use Rattle.solid_spec.proofs.PolygonsBalanced.{linPolySoup-balanced, rotPolySoup-balanced}
+use Rattle.solid_spec.proofs.PartsBalanced.{vertexAt-fits, multiBoxParts-balanced, wireParts-balanced}
 use Rattle.shape.specs.declared.Shape.{Shape}
 use Rattle.shape.specs.declared.Shape.the-variants.{Box, MultiBox, Sphere, SphericalShell, Cylinder, CylindricalShell, Polygon, LinPoly, RotPoly, Wire}
 use Rattle.shape.specs.declared.TessellationOptions.{TessellationOptions}
@@ -41,6 +41,8 @@ use Rattle.shape.specs.DrawingLaws.{finite-at}
 use Rattle.slice.specs.Every.{every}
 use Rattle.tessellate_spec.specs.Solid.{partsOf, partsFinite}
 use Rattle.tessellate_law.specs.Words.{FitsShape, UnequalBounds, EachUnequal, FullTurn, Solid}
+use Rattle.solid_spec.specs.Fits.{FiniteV, FitsV, Bounded, FitsAll}
+use Rattle.solid_spec.specs.BalancedParts.{EachPart, BalancedPart}
 
 -- ---- the numbers of cap triangles
 
@@ -73,16 +75,15 @@ bounded : (a b : Vec3) → FitsV a → FitsV b → FiniteV a → FiniteV b → U
 bounded a b fa fb na nb u =
     record { fits-a = fa; fits-b = fb; finite-a = na; finite-b = nb; unequal-x = u .x; unequal-y = u .y; unequal-z = u .z }
 
-point-finite : (v : List Float) → every finite v ≡ true → (i : ℕ) → 3 * i + 2 < length v → FiniteV (pointAt v i)
-unfolding pointAt
+point-finite : (v : List Float) → every finite v ≡ true → (i : ℕ) → 3 * i + 2 < length v → FiniteV (vertexAt v i)
 point-finite v h i l = record { x = at (3 * i) (omega arith); y = at (3 * i + 1) (omega arith); z = at (3 * i + 2) l }
   where
     at : (k : ℕ) → k < length v → T (finite (getD v k nan))
     at k b = true-T (finite (getD v k nan)) (finite-at v k b h)
 
-boxes-bounded : (v : List Float) → FitsAll v → every finite v ≡ true → EachUnequal v → (i : ℕ) → i < length v / 6 → Bounded (pointAt v (2 * i)) (pointAt v (2 * i + 1))
+boxes-bounded : (v : List Float) → FitsAll v → every finite v ≡ true → EachUnequal v → (i : ℕ) → i < length v / 6 → Bounded (vertexAt v (2 * i)) (vertexAt v (2 * i + 1))
 boxes-bounded v f h u i l =
-    bounded (pointAt v (2 * i)) (pointAt v (2 * i + 1)) (pointAt-fits v f (2 * i)) (pointAt-fits v f (2 * i + 1))
+    bounded (vertexAt v (2 * i)) (vertexAt v (2 * i + 1)) (vertexAt-fits v f (2 * i)) (vertexAt-fits v f (2 * i + 1))
     (point-finite v h (2 * i) (omega arith)) (point-finite v h (2 * i + 1) (omega arith)) (u i l)
 
 -- ---- the solids

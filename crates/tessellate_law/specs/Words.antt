@@ -15,15 +15,14 @@ use Rattle.outline.specs.Clean.{cleanPolygon}
 use Rattle.outline.specs.Ccw.{swapped, ccwPolygon, prepared}
 use Rattle.mesh_spec.specs.Mesh.{Mesh}
 use Rattle.shape.specs.Arc.{isFull}
-use Rattle.solid_spec.specs.Boxes.{pointAt}
+use Rattle.mesh_spec.specs.Slices.{vertexAt}
 use Rattle.solid_spec.specs.Cylinder.{innerRadius, outerRadius}
 use Rattle.solid_spec.specs.Polygons.{capTriangles, lowEnd, highEnd, swaps}
-use Rattle.solid_spec.proofs.Points.{FitsV}
-use Rattle.solid_spec.proofs.PartsBalanced.{FitsAll}
 use Rattle.shape.specs.declared.Shape.{Shape}
 use Rattle.shape.specs.declared.Shape.the-variants.{Box, MultiBox, Sphere, SphericalShell, Cylinder, CylindricalShell, Polygon, LinPoly, RotPoly, Wire}
 use Rattle.mesh_check.specs.State.{State, state, meshOf}
 use Rattle.tessellate_spec.specs.Outcome.{Job, tessellateOf}
+use Rattle.solid_spec.specs.Fits.{FitsV, FitsAll}
 
 -- ---- accepted, and the mesh
 
@@ -77,7 +76,7 @@ pub record UnequalBounds (a b : Vec3) : Type 0 where
 
 -- box i of a multi-box's list is its points 2 i and 2 i + 1
 abbrev pub EachUnequal : List Float → Type 0
-EachUnequal v = (i : ℕ) → i < length v / 6 → UnequalBounds (pointAt v (2 * i)) (pointAt v (2 * i + 1))
+EachUnequal v = (i : ℕ) → i < length v / 6 → UnequalBounds (vertexAt v (2 * i)) (vertexAt v (2 * i + 1))
 
 -- the inner radius of a shell after clamping, `(r - w).max(0.0)` with w half the width, and the outer one, `r + w`
 abbrev pub UnequalRadii : Float → Float → Type 0

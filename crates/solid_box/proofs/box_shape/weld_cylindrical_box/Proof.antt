@@ -4,7 +4,7 @@ use Rattle.solid_box.proofs.BoxRuns.{cylindrical-runs}
 use Rattle.solid_box.proofs.FaceRuns.{line-tabled}
 use mathlib.Core.Path.{refl, ap}
 use native.Mathlib.Omega.{arith}
-use Rattle.solid_spec.specs.declared.Line.{Line}
+use Rattle.surface_spec.specs.declared.Line.{Line}
 use borrow.Author.Needs.{needs}
 use Rattle.solid_box.proofs.box_shape.weld_cylindrical_box.Statement.{statement}
 use Rattle.solid_box.proofs.box_shape.weld_cylindrical_box.Tie as tie

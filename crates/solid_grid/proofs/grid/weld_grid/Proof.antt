@@ -6,7 +6,7 @@ use native.Mathlib.Omega.{arith}
 use denote.Ref.{now}
 use Rattle.weld.specs.Runs.{runs-as}
 use Rattle.solid_spec.specs.Grid.{grid}
-use Rattle.solid_spec.specs.Surface.{surfaceAt}
+use Rattle.surface_spec.specs.Surface.{surfaceAt}
 use Rattle.surface.proofs.Surfaces.{within-less, tabled-less}
 use Rattle.solid_grid.proofs.grid.weld_grid.Statement.{statement}
 use Rattle.solid_grid.proofs.grid.weld_grid.Tie as tie

@@ -12,7 +12,7 @@ use Rattle.weld.specs.Rep.{held, Runs}
 use Rattle.weld.specs.Runs.{runs-as}
 use Rattle.weld_quad.specs.Quads.{Known}
 use Rattle.solid_spec.specs.Grid.{row}
-use Rattle.solid_spec.specs.Surface.{surfaceAt}
+use Rattle.surface_spec.specs.Surface.{surfaceAt}
 use Rattle.surface.proofs.Surfaces.{within-less, tabled-less}
 use Rattle.solid_grid.proofs.Cells.{row-none, row-more}
 use Rattle.solid_grid.proofs.grid.weld_row.Statement.{statement}

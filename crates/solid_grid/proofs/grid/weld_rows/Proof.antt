@@ -7,7 +7,7 @@ use lib.ListN.{length}
 use Rattle.weld.specs.Rep.{held, Runs}
 use Rattle.weld.specs.Runs.{runs-as}
 use Rattle.solid_spec.specs.Grid.{grid}
-use Rattle.solid_spec.specs.Surface.{surfaceAt}
+use Rattle.surface_spec.specs.Surface.{surfaceAt}
 use Rattle.surface.proofs.Surfaces.{within-less, tabled-less}
 use Rattle.solid_grid.proofs.Cells.{grid-none, grid-more}
 use Rattle.solid_grid.proofs.grid.weld_rows.Statement.{statement}

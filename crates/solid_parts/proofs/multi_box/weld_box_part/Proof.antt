@@ -4,20 +4,20 @@ use Rattle.solid_parts.proofs.PartRuns.{box-part}
 use Rattle.solid_parts.proofs.multi_box.weld_box_part.Statement.{statement}
 use Rattle.solid_parts.proofs.multi_box.weld_box_part.Tie as tie
 
-mul-point-at : tie.Need-mul-point-at
-mul-point-at c = omega (arith, c .before .before .before .before .pre .1 .1)
+mul-vertex : tie.Need-mul-vertex
+mul-vertex c = omega (arith, c .before .before .before .before .pre .1 .1)
 
-point-at-requires : tie.Need-point-at-requires
-point-at-requires c κs = omega (arith, c .before .before .before .before .pre .1 .1)
+vertex-requires : tie.Need-vertex-requires
+vertex-requires c κs = omega (arith, c .before .before .before .before .pre .1 .1)
 
-mul-point-at-2 : tie.Need-mul-point-at-2
-mul-point-at-2 c = omega (arith, c .before .before .before .before .before .pre .1 .1)
+mul-vertex-2 : tie.Need-mul-vertex-2
+mul-vertex-2 c = omega (arith, c .before .before .before .before .before .pre .1 .1)
 
-add-point-at : tie.Need-add-point-at
-add-point-at c = omega (arith, c .before .before .before .before .before .pre .1 .1)
+add-vertex : tie.Need-add-vertex
+add-vertex c = omega (arith, c .before .before .before .before .before .pre .1 .1)
 
-point-at-requires-2 : tie.Need-point-at-requires-2
-point-at-requires-2 c κs = omega (arith, c .before .before .before .before .before .pre .1 .1)
+vertex-requires-2 : tie.Need-vertex-requires-2
+vertex-requires-2 c κs = omega (arith, c .before .before .before .before .before .pre .1 .1)
 
 weld-box-shape-requires : tie.Need-weld-box-shape-requires
 weld-box-shape-requires c κs = (
@@ -39,19 +39,19 @@ same-length-3 : tie.Need-same-length-3
 same-length-3 c = c .before .before .before .before .before .before .before .weld-box-shape .ensures .wlong
 
 returns : tie.Need-returns
-returns c = box-part _ _ _ _ _ _ _ _ _ _ _ _ (c .before .before .before .before .before .before .before .before .before .before .before .before .point-at .ensures) (c .before
-    .before .before .before .before .before .before .before .before .before .before .point-at2 .ensures) (c .before .before .before .before .before .before .before
+returns c = box-part _ _ _ _ _ _ _ _ _ _ _ _ (c .before .before .before .before .before .before .before .before .before .before .before .before .vertex .ensures) (c .before
+    .before .before .before .before .before .before .before .before .before .before .vertex2 .ensures) (c .before .before .before .before .before .before .before
     .weld-box-shape .ensures) (c .new-part .ensures)
 
 pub weld-box-part-spec : {M : Type 1} → statement M
 weld-box-part-spec =
     tie.close
     (tie.spec
-    mul-point-at
-    point-at-requires
-    mul-point-at-2
-    add-point-at
-    point-at-requires-2
+    mul-vertex
+    vertex-requires
+    mul-vertex-2
+    add-vertex
+    vertex-requires-2
     weld-box-shape-requires
     new-part-requires
     same-length

@@ -5,20 +5,20 @@ use Rattle.solid_spec.specs.Wire.{wirePoint}
 use Rattle.solid_parts.proofs.wire.wire_point.Statement.{statement}
 use Rattle.solid_parts.proofs.wire.wire_point.Tie as tie
 
-point-at-requires : tie.Need-point-at-requires
-point-at-requires c κs = c .before .pre
+vertex-requires : tie.Need-vertex-requires
+vertex-requires c κs = c .before .pre
 
 to-cartesian-requires : tie.Need-to-cartesian-requires
 to-cartesian-requires c κs = tt
 
 returns : tie.Need-returns
 unfolding wirePoint
-returns c = c .to-cartesian .ensures ∙ ap (toCartesian (c .before .before .before .args .cylindrical)) (c .before .point-at .ensures)
+returns c = c .to-cartesian .ensures ∙ ap (toCartesian (c .before .before .before .args .cylindrical)) (c .before .vertex .ensures)
 
 pub wire-point-spec : {M : Type 1} → statement M
 wire-point-spec =
     tie.close
     (tie.spec
-    point-at-requires
+    vertex-requires
     to-cartesian-requires
     returns)

@@ -1,0 +1,2 @@
+-- What the contracts of `solid_caps` cite.
+pub mod Caps

@@ -1,0 +1,2 @@
+-- Laws that the proofs of `solid_cylinder` use.
+pub mod CylinderRuns

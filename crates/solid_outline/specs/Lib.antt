@@ -1,0 +1,2 @@
+-- What the contracts of `solid_outline` cite.
+pub mod Turned

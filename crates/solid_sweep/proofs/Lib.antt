@@ -1,4 +1,0 @@
--- Laws that the proofs of `solid_sweep` use.
-pub mod Numbers
-pub mod CapRuns
-pub mod OutlineRuns

@@ -1,2 +1,0 @@
--- What the contracts of `solid_sweep` cite.
-pub mod Caps

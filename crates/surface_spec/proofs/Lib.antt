@@ -1,0 +1,2 @@
+-- The grids of `solid_spec` as grids over surfaces.
+pub mod SurfaceGrids

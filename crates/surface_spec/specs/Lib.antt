@@ -1,0 +1,2 @@
+-- What the contracts of the surfaces cite.
+pub mod Surface
