@@ -6,6 +6,7 @@ ghost use Rattle.weld.specs.Rep.{held, Ready, Runs};
 ghost use Rattle.solid_spec.specs.Outline as Outline;
 ghost use Rattle.solid_spec.specs.Polygons as Polygons;
 ghost use Rattle.solid_outline.specs.Turned.{turnSpan, TurnWithin, turnOf};
+use ieee::TAU;
 use surface::Turns;
 use surface_spec::Surface;
 use weld::Welder;
