@@ -10,7 +10,7 @@ use Rattle.refusal.specs.declared.Refusal.the-variants.{Accepted, NotFinite, No
 use Rattle.slice.specs.Every.{countedPlaces, every}
 use Rattle.mesh_check.specs.State.{State, meshOf, badMesh, notFinite, tooFewPlaces, Sound}
 use Rattle.mesh_check.proofs.Stored.{appended-vertices, appended-triangles}
-use Rattle.slice_law.specs.Bools.{not-both}
+use Rattle.slice_law.specs.Bools.{not-and, not-both}
 use Rattle.mesh_refusals.specs.Append.{appendRefusal}
 
 -- ---- the tests of either mesh

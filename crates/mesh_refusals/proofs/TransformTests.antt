@@ -18,7 +18,7 @@ use Rattle.refusal.specs.declared.Refusal.{Refusal}
 use Rattle.refusal.specs.declared.Refusal.the-variants.{Accepted, NotFinite, AngleTooLarge, BadList, PointNotFinite, BadMesh}
 use Rattle.slice.specs.Every.{every}
 use Rattle.mesh_check.specs.State.{State, meshOf, badMesh, notFinite}
-use Rattle.slice_law.specs.Bools.{not-both}
+use Rattle.slice_law.specs.Bools.{not-and, not-both}
 use Rattle.mesh_check.proofs.Tests.{transform-vertices}
 use Rattle.mesh_refusals.specs.Transform.{transformed, moveRefusal, transformRefusal}
 
