@@ -8,6 +8,7 @@ use lib.ListN.{length}
 use lib.Dec.{eqb, leb}
 use lib.Ieee.{binary64, lt, ofBits}
 use borrow.Author.Tests.{eq-eqb, ne-eqb, eqb-true, eqb-false, leb-true, leb-false}
+use Rattle.slice_law.specs.Bools.{and-false}
 use Rattle.math_matrix.specs.declared.Mat4.{Mat4}
 use Rattle.math_matrix.specs.Mat.{determinant}
 use Rattle.mesh_balance_spec.specs.Soup.{Tri, Weight, sum, mapTri, sum-append, sum-map, sum-flip}
@@ -23,10 +24,6 @@ eqb-shift n x y = go (eqb x y) refl
     go : (t : Bool) → eqb x y ≡ t → eqb (x + n) (y + n) ≡ t
     go true e = eq-eqb (x + n) (y + n) (ap (λ (z : ℕ). z + n) (eqb-true x y e))
     go false e = ne-eqb (x + n) (y + n) (λ q. eqb-false x y e (omega arith))
-
-and-false : (b : Bool) → (b && false) ≡ false
-and-false true = refl
-and-false false = refl
 
 module _ (n : ℕ) where
   -- an edge between numbers from n on is the edge between the numbers before
