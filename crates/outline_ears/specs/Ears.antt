@@ -55,6 +55,11 @@ any p (o ∷ l) = p o || any p l
 unfoldable pub blocked : List Float → Float → Ear → List ℕ → Bool
 blocked v eps t idx = any (blocks v eps t) idx
 
+-- n numbers from k on; with k = 0 the Rust's 0..n
+unfoldable pub counting : ℕ → ℕ → List ℕ
+counting k zero = []
+counting k (suc n) = k ∷ counting (suc k) n
+
 -- the Rust's ip: idx[(k + m - 1) % m], where m is idx.len()
 unfoldable pub ip : List ℕ → ℕ → ℕ
 ip idx k = getD idx ((k + length idx - 1) % length idx) 0
@@ -86,11 +91,6 @@ isEar v eps idx k = not (le (crossAt v idx k) eps) && not (blocked v eps (earAt 
 -- the Rust's test in `find`: cross.abs() <= eps
 unfoldable pub isFlat : List Float → Float → List ℕ → ℕ → Bool
 isFlat v eps idx k = le (absolute (crossAt v idx k)) eps
-
--- n numbers from k on; with k = 0 the Rust's 0..n
-unfoldable pub counting : ℕ → ℕ → List ℕ
-counting k zero = []
-counting k (suc n) = k ∷ counting (suc k) n
 
 -- the Rust's `find`: the first number of the list that passes the test
 unfoldable pub find : (ℕ → Bool) → List ℕ → Found
