@@ -2,3 +2,4 @@
 pub mod Outcome
 pub mod Edits
 pub mod Lists
+pub mod ListExamples

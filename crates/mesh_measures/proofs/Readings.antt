@@ -20,10 +20,11 @@ use Rattle.mesh_spec.specs.Measures.{triangleSoup, sumOf, including, plusZeroBo
 use Rattle.refusal.specs.declared.Refusal.{Refusal}
 use Rattle.mesh_measures.specs.declared.Measured.{Measured}
 use Rattle.mesh_measures.specs.declared.Boxed.{Boxed}
+use Rattle.refusal.specs.Number.{numberOf}
 use Rattle.refusal.specs.Accepted.{isAccepted}
 use Rattle.mesh_check.specs.State.{State, meshOf, checkOf, Sound}
 use Rattle.mesh_triples.specs.Triples.{tripleAt, cornersOf, AllWithin}
-use Rattle.mesh_measures.specs.Measures.{measureOf, boundingBoxOf}
+use Rattle.mesh_measures.specs.Measures.{measureOf, GivesMeasure, boundingBoxOf, GivesBox}
 use Rattle.slice_law.specs.Next.{getD-next}
 use Rattle.mesh_triples.proofs.NextTriples.{next-counted, next-points}
 use Rattle.mesh_box.specs.ZeroBox.{zeroBox}
@@ -70,21 +71,32 @@ module _ (s : State) (ok : Sound s) where
   sum-is f z r e = e ∙ ap {B = Float} (λ (l : List (Tri Vec3)). sumOf f z l) soup-is
 
 -- ---- the answers
-module _ (f : Mesh → Float) (s : State) (r : Refusal) (e : r ≡ checkOf s) where
-  pub measure-refused : isAccepted r ≡ false → record { refusal = r; bits = 0 } ≡ measureOf f s
-  unfolding measureOf
-  measure-refused h = (λ j. record { refusal = e j; bits = 0 }) ∙ sym (rw (sym (ap {B = Bool} isAccepted e) ∙ h))
+-- the number of an answer is that of the outcome
+gives-measure : (o r : Measured) → r ≡ o → GivesMeasure o r
+gives-measure o r p = record { answer = p; number = ap {B = ℕ} (λ (m : Measured). numberOf (m .refusal)) p }
 
-  pub measure-done : (x : Float) (b : ℕ) → isAccepted r ≡ true → x ≡ f (meshOf s) → b ≡ toBits binary64 x → record { refusal = r; bits = b } ≡ measureOf f s
+gives-box : (o r : Boxed) → r ≡ o → GivesBox o r
+gives-box o r p = record { answer = p; number = ap {B = ℕ} (λ (m : Boxed). numberOf (m .refusal)) p }
+
+module _ (f : Mesh → Float) (s : State) (r : Refusal) (e : r ≡ checkOf s) where
+  pub measure-refused : isAccepted r ≡ false → GivesMeasure (measureOf f s) (record { refusal = r; bits = 0 })
   unfolding measureOf
-  measure-done x b h v w = (λ j. record { refusal = e j; bits = (w ∙ ap {B = ℕ} (toBits binary64) v) j }) ∙ sym (rw (sym (ap {B = Bool} isAccepted e) ∙ h))
+  measure-refused h = gives-measure (measureOf f s) (record { refusal = r; bits = 0 }) ((λ j. record { refusal = e j; bits = 0 }) ∙ sym (rw (sym (ap {B = Bool} isAccepted e) ∙ h)))
+
+  pub measure-done : (x : Float) (b : ℕ) → isAccepted r ≡ true → x ≡ f (meshOf s) → b ≡ toBits binary64 x → GivesMeasure (measureOf f s) (record { refusal = r; bits = b })
+  unfolding measureOf
+  measure-done x b h v w =
+      gives-measure (measureOf f s) (record { refusal = r; bits = b })
+      ((λ j. record { refusal = e j; bits = (w ∙ ap {B = ℕ} (toBits binary64) v) j }) ∙ sym (rw (sym (ap {B = Bool} isAccepted e) ∙ h)))
 
 module _ (s : State) (r : Refusal) (e : r ≡ checkOf s) where
-  pub box-refused : (z : BoundingBox) → isAccepted r ≡ false → z ≡ zeroBox → record { refusal = r; bounds = z } ≡ boundingBoxOf s
+  pub box-refused : (z : BoundingBox) → isAccepted r ≡ false → z ≡ zeroBox → GivesBox (boundingBoxOf s) (record { refusal = r; bounds = z })
   unfolding boundingBoxOf
-  box-refused z h w = (λ j. record { refusal = e j; bounds = w j }) ∙ sym (rw (sym (ap {B = Bool} isAccepted e) ∙ h))
+  box-refused z h w = gives-box (boundingBoxOf s) (record { refusal = r; bounds = z }) ((λ j. record { refusal = e j; bounds = w j }) ∙ sym (rw (sym (ap {B = Bool} isAccepted e) ∙ h)))
 
   pub box-done : (b c : BoundingBox) → isAccepted r ≡ true → b ≡ including emptyBox (points (take (3 * s .mesh .vertices) (s .vertices))) → c ≡ plusZeroBox b
-      → record { refusal = r; bounds = c } ≡ boundingBoxOf s
+      → GivesBox (boundingBoxOf s) (record { refusal = r; bounds = c })
   unfolding boundingBoxOf boundingBox meshOf
-  box-done b c h v w = (λ j. record { refusal = e j; bounds = (w ∙ ap {B = BoundingBox} plusZeroBox v) j }) ∙ sym (rw (sym (ap {B = Bool} isAccepted e) ∙ h))
+  box-done b c h v w =
+      gives-box (boundingBoxOf s) (record { refusal = r; bounds = c })
+      ((λ j. record { refusal = e j; bounds = (w ∙ ap {B = BoundingBox} plusZeroBox v) j }) ∙ sym (rw (sym (ap {B = Bool} isAccepted e) ∙ h)))

@@ -1,7 +1,6 @@
 // The measures of a mesh in lent slices. Each checks the mesh first. They change nothing.
-ghost use mathlib.Core.Path.{_≡_};
 ghost use Rattle.mesh_check.specs.State.{state};
-ghost use Rattle.mesh_measures.specs.Measures.{signedVolumeOf, areaOf, enclosedVolumeOf, boundingBoxOf};
+ghost use Rattle.mesh_measures.specs.Measures.{GivesMeasure, GivesBox, signedVolumeOf, areaOf, enclosedVolumeOf, boundingBoxOf};
 use math::BoundingBox;
 use mesh_check::TriMesh;
 use refusal::Refusal;
@@ -20,7 +19,7 @@ pub struct Boxed {
 
 // The volume that the triangles enclose, positive where they are counter-clockwise seen from outside.
 pub fn signed_volume(mesh: TriMesh, vertices: &[f64], triangles: &[u32]) -> Measured
-    ensures { λ r. ⌜ r ≡ signedVolumeOf (state mesh (now (vertices .entry)) (now (triangles .entry))) ⌝ }
+    ensures { λ r. ⌜ GivesMeasure (signedVolumeOf (state mesh (now (vertices .entry)) (now (triangles .entry)))) r ⌝ }
 {
     let k = mesh.triangles;
     let refusal = mesh_check::check(mesh, vertices, triangles);
@@ -36,7 +35,7 @@ pub fn signed_volume(mesh: TriMesh, vertices: &[f64], triangles: &[u32]) -> Meas
 
 // The absolute value of the signed volume.
 pub fn enclosed_volume(mesh: TriMesh, vertices: &[f64], triangles: &[u32]) -> Measured
-    ensures { λ r. ⌜ r ≡ enclosedVolumeOf (state mesh (now (vertices .entry)) (now (triangles .entry))) ⌝ }
+    ensures { λ r. ⌜ GivesMeasure (enclosedVolumeOf (state mesh (now (vertices .entry)) (now (triangles .entry)))) r ⌝ }
 {
     let k = mesh.triangles;
     let refusal = mesh_check::check(mesh, vertices, triangles);
@@ -52,7 +51,7 @@ pub fn enclosed_volume(mesh: TriMesh, vertices: &[f64], triangles: &[u32]) -> Me
 
 // The area of all triangles.
 pub fn area(mesh: TriMesh, vertices: &[f64], triangles: &[u32]) -> Measured
-    ensures { λ r. ⌜ r ≡ areaOf (state mesh (now (vertices .entry)) (now (triangles .entry))) ⌝ }
+    ensures { λ r. ⌜ GivesMeasure (areaOf (state mesh (now (vertices .entry)) (now (triangles .entry)))) r ⌝ }
 {
     let k = mesh.triangles;
     let refusal = mesh_check::check(mesh, vertices, triangles);
@@ -68,7 +67,7 @@ pub fn area(mesh: TriMesh, vertices: &[f64], triangles: &[u32]) -> Measured
 
 // The box of the vertices.
 pub fn bounding_box(mesh: TriMesh, vertices: &[f64], triangles: &[u32]) -> Boxed
-    ensures { λ r. ⌜ r ≡ boundingBoxOf (state mesh (now (vertices .entry)) (now (triangles .entry))) ⌝ }
+    ensures { λ r. ⌜ GivesBox (boundingBoxOf (state mesh (now (vertices .entry)) (now (triangles .entry)))) r ⌝ }
 {
     let n = mesh.vertices;
     let refusal = mesh_check::check(mesh, vertices, triangles);

@@ -9,7 +9,7 @@ area-requires : tie.Need-area-requires
 area-requires c κs = search needs
 
 returns : tie.Need-returns
-returns c = ap (λ (m : Measured). m .bits) (c .area .ensures)
+returns c = ap (λ (m : Measured). m .bits) (c .area .ensures .answer)
 
 pub sizturga-bench-area-spec : {M : Type 1} → statement M
 sizturga-bench-area-spec = tie.close (tie.spec area-requires returns)

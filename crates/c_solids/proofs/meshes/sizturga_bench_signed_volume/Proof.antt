@@ -9,7 +9,7 @@ signed-volume-requires : tie.Need-signed-volume-requires
 signed-volume-requires c κs = search needs
 
 returns : tie.Need-returns
-returns c = ap (λ (m : Measured). m .bits) (c .signed-volume .ensures)
+returns c = ap (λ (m : Measured). m .bits) (c .signed-volume .ensures .answer)
 
 pub sizturga-bench-signed-volume-spec : {M : Type 1} → statement M
 sizturga-bench-signed-volume-spec = tie.close (tie.spec signed-volume-requires returns)
