@@ -5,7 +5,7 @@ ghost use Prim.Native.Nat.{_+_, _-_, _*_, _/_, _≤_, _<_};
 ghost use lib.ListN.{length};
 ghost use Rattle.weld.specs.Rep.{held, Ready};
 ghost use Rattle.solid_spec.specs.Boxes.{pointAt, boxShape, multiBoxParts};
-ghost use Rattle.solid_parts.specs.Parts.{PartsRun};
+ghost use Rattle.weld.specs.Parts.{PartsRun};
 use math::Vec3;
 use weld::Welder;
 
