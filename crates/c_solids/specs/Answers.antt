@@ -16,8 +16,8 @@ use Rattle.shape.specs.declared.CoordSystem.{CoordSystem}
 use Rattle.shape.specs.declared.CoordSystem.the-variants.{Cartesian}
 use Rattle.mesh_check.specs.declared.TriMesh.{TriMesh}
 use Rattle.mesh.specs.Outcome.{EditOutcome}
-use Rattle.tessellate_spec.specs.Outcome.{Outcome, tessellateOf}
-use Rattle.tessellate_spec.specs.Gives.{job}
+use Rattle.mesh_made.specs.Made.{Lent, Ending}
+use Rattle.tessellate_spec.specs.Outcome.{job, tessellateOf}
 
 -- a point by its numbers
 abbrev pub at : Float → Float → Float → Vec3
@@ -31,23 +31,23 @@ abbrev pub unread : List Float
 unread = replicate 1 (ofBits binary64 0)
 
 -- a shape in a coordinate system, without operations
-abbrev pub solidIn : CoordSystem → Shape → List Float → ℕ → ℕ → ℕ → ℕ → ℕ → Outcome
+abbrev pub solidIn : CoordSystem → Shape → List Float → ℕ → ℕ → Lent → Ending
 solidIn system shape list segments rings = tessellateOf (job shape list Inherited system (record { segments = segments; «sphere_rings» = rings }) false noOps 0)
 
 -- the same in the Cartesian system
-abbrev pub solidOf : Shape → List Float → ℕ → ℕ → ℕ → ℕ → ℕ → Outcome
+abbrev pub solidOf : Shape → List Float → ℕ → ℕ → Lent → Ending
 solidOf = solidIn Cartesian
 
 -- 16 operations, of which two count: a rotation about an axis through the origin, then a translation
 abbrev pub turnThenMove : Vec3 → Float → Vec3 → List TransformOp
 turnThenMove axis angle by = set (replicate mostOps (Translate by)) 0 (RotateOrigin axis angle)
 
--- the refusal's number, the counts and the slices' final lists are those of the outcome of a tessellation
-pub record Tells (o : Outcome) (number nv nt : ℕ) (vs : List Float) (ts ws : List ℕ) : Type 0 where
+-- the refusal's number, the counts and the slices' final lists are those of the ending of a call that makes a mesh
+pub record Tells (o : Ending) (number nv nt : ℕ) (vs : List Float) (ts ws : List ℕ) : Type 0 where
   pub refusal : number ≡ numberOf (o .refusal)
-  pub mesh : counts nv nt ≡ o .mesh
-  pub vertices : vs ≡ o .vertices
-  pub triangles : ts ≡ o .triangles
+  pub mesh : counts nv nt ≡ o .state .mesh
+  pub vertices : vs ≡ o .state .vertices
+  pub triangles : ts ≡ o .state .triangles
   pub work : ws ≡ o .work
 
 -- the same of an edit

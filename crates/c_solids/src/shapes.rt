@@ -1,5 +1,5 @@
 // The solids, without operations.
-ghost use lib.ListN.{length};
+ghost use Rattle.mesh_made.specs.Made.{lent};
 ghost use Rattle.shape.specs.declared.Shape.the-variants as Shape;
 ghost use Rattle.c_solids.specs.Answers.{Tells, solidIn, solidOf, at, unread};
 use math::Vec3;
@@ -23,7 +23,7 @@ pub fn solid(
     triangle_count: &mut usize,
 ) -> u32
     ensures { λ r. ⌜ Tells
-        (solidIn system shape (now (list .entry)) segments rings (length (now (vertices .entry))) (length (now (triangles .entry))) (length (now (work .entry))))
+        (solidIn system shape (now (list .entry)) segments rings (lent (now (vertices .entry)) (now (triangles .entry)) (now (work .entry))))
         r (now («vertex_count» .exit)) (now («triangle_count» .exit)) (now (vertices .exit)) (now (triangles .exit)) (now (work .exit)) ⌝ }
 {
     let none = TransformOp::Scale(1.0);
@@ -68,7 +68,7 @@ pub extern "C" fn sizturga_bench_box(
     triangle_count: &mut usize,
 ) -> u32
     ensures { λ r. ⌜ Tells
-        (solidOf (Shape.Box (at x y z) (at «stop_x» «stop_y» «stop_z»)) unread segments rings (length (now (vertices .entry))) (length (now (triangles .entry))) (length (now (work .entry))))
+        (solidOf (Shape.Box (at x y z) (at «stop_x» «stop_y» «stop_z»)) unread segments rings (lent (now (vertices .entry)) (now (triangles .entry)) (now (work .entry))))
         r (now («vertex_count» .exit)) (now («triangle_count» .exit)) (now (vertices .exit)) (now (triangles .exit)) (now (work .exit)) ⌝ }
 {
     let list = [0.0; 1];
@@ -108,7 +108,7 @@ pub extern "C" fn sizturga_bench_sphere(
     triangle_count: &mut usize,
 ) -> u32
     ensures { λ r. ⌜ Tells
-        (solidOf (Shape.Sphere (at x y z) radius) unread segments rings (length (now (vertices .entry))) (length (now (triangles .entry))) (length (now (work .entry))))
+        (solidOf (Shape.Sphere (at x y z) radius) unread segments rings (lent (now (vertices .entry)) (now (triangles .entry)) (now (work .entry))))
         r (now («vertex_count» .exit)) (now («triangle_count» .exit)) (now (vertices .exit)) (now (triangles .exit)) (now (work .exit)) ⌝ }
 {
     let list = [0.0; 1];
@@ -147,7 +147,7 @@ pub extern "C" fn sizturga_bench_cylinder(
     triangle_count: &mut usize,
 ) -> u32
     ensures { λ r. ⌜ Tells
-        (solidOf (Shape.Cylinder (at x y z) (at «stop_x» «stop_y» «stop_z») radius) unread segments rings (length (now (vertices .entry))) (length (now (triangles .entry))) (length (now (work .entry))))
+        (solidOf (Shape.Cylinder (at x y z) (at «stop_x» «stop_y» «stop_z») radius) unread segments rings (lent (now (vertices .entry)) (now (triangles .entry)) (now (work .entry))))
         r (now («vertex_count» .exit)) (now («triangle_count» .exit)) (now (vertices .exit)) (now (triangles .exit)) (now (work .exit)) ⌝ }
 {
     let list = [0.0; 1];
@@ -188,7 +188,7 @@ pub extern "C" fn sizturga_bench_polygon(
     triangle_count: &mut usize,
 ) -> u32
     ensures { λ r. ⌜ Tells
-        (solidOf (Shape.Polygon «norm_dir» elevation) (now (list .entry)) segments rings (length (now (vertices .entry))) (length (now (triangles .entry))) (length (now (work .entry))))
+        (solidOf (Shape.Polygon «norm_dir» elevation) (now (list .entry)) segments rings (lent (now (vertices .entry)) (now (triangles .entry)) (now (work .entry))))
         r (now («vertex_count» .exit)) (now («triangle_count» .exit)) (now (vertices .exit)) (now (triangles .exit)) (now (work .exit)) ⌝ }
 {
     solid(
@@ -224,7 +224,7 @@ pub extern "C" fn sizturga_bench_extruded(
     triangle_count: &mut usize,
 ) -> u32
     ensures { λ r. ⌜ Tells
-        (solidOf (Shape.LinPoly «norm_dir» elevation depth) (now (list .entry)) segments rings (length (now (vertices .entry))) (length (now (triangles .entry))) (length (now (work .entry))))
+        (solidOf (Shape.LinPoly «norm_dir» elevation depth) (now (list .entry)) segments rings (lent (now (vertices .entry)) (now (triangles .entry)) (now (work .entry))))
         r (now («vertex_count» .exit)) (now («triangle_count» .exit)) (now (vertices .exit)) (now (triangles .exit)) (now (work .exit)) ⌝ }
 {
     solid(
@@ -263,7 +263,7 @@ pub extern "C" fn sizturga_bench_rotated(
     triangle_count: &mut usize,
 ) -> u32
     ensures { λ r. ⌜ Tells
-        (solidOf (Shape.RotPoly «norm_dir» elevation «rot_axis_dir» «start_angle» «stop_angle») (now (list .entry)) segments rings (length (now (vertices .entry))) (length (now (triangles .entry))) (length (now (work .entry))))
+        (solidOf (Shape.RotPoly «norm_dir» elevation «rot_axis_dir» «start_angle» «stop_angle») (now (list .entry)) segments rings (lent (now (vertices .entry)) (now (triangles .entry)) (now (work .entry))))
         r (now («vertex_count» .exit)) (now («triangle_count» .exit)) (now (vertices .exit)) (now (triangles .exit)) (now (work .exit)) ⌝ }
 {
     solid(
@@ -300,7 +300,7 @@ pub extern "C" fn sizturga_bench_wire(
     triangle_count: &mut usize,
 ) -> u32
     ensures { λ r. ⌜ Tells
-        (solidOf (Shape.Wire radius) (now (list .entry)) segments rings (length (now (vertices .entry))) (length (now (triangles .entry))) (length (now (work .entry))))
+        (solidOf (Shape.Wire radius) (now (list .entry)) segments rings (lent (now (vertices .entry)) (now (triangles .entry)) (now (work .entry))))
         r (now («vertex_count» .exit)) (now («triangle_count» .exit)) (now (vertices .exit)) (now (triangles .exit)) (now (work .exit)) ⌝ }
 {
     solid(

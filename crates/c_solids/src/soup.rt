@@ -1,5 +1,5 @@
 // The welder over a whole soup that is lent, nine floats a triangle.
-ghost use lib.ListN.{length};
+ghost use Rattle.mesh_made.specs.Made.{lent};
 ghost use Rattle.weld_from_soup.specs.Soups.{soupOf, fromSoupOf};
 ghost use Rattle.c_solids.specs.Answers.{Tells};
 
@@ -14,7 +14,7 @@ pub extern "C" fn sizturga_bench_from_soup(
     triangle_count: &mut usize,
 ) -> u32
     ensures { λ r. ⌜ Tells
-        (fromSoupOf (soupOf (now (soup .entry))) (length (now (vertices .entry))) (length (now (triangles .entry))) (length (now (work .entry))))
+        (fromSoupOf (soupOf (now (soup .entry))) (lent (now (vertices .entry)) (now (triangles .entry)) (now (work .entry))))
         r (now («vertex_count» .exit)) (now («triangle_count» .exit)) (now (vertices .exit)) (now (triangles .exit)) (now (work .exit)) ⌝ }
 {
     let t = weld_from_soup::from_soup(soup, vertices, triangles, work);

@@ -1,2 +1,3 @@
--- Laws that the proofs of `mesh_made` and of its callers use.
+-- Laws that the proofs of `mesh_made` and of the calls that end there use.
 pub mod Ending
+pub mod Judging

@@ -1,2 +1,4 @@
--- What the contracts of `mesh_made` cite.
-pub mod Ends
+-- What the contracts of `mesh_made` and of the calls that end there cite.
+pub mod Made
+pub mod Steps
+pub mod Examples

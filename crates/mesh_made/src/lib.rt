@@ -1,60 +1,89 @@
-// The end of a call of `tessellate`: its answer, and what stays in the lent slices.
+// Where every call that makes a mesh ends: what it answers, and what stays in the lent slices.
 ghost use mathlib.Core.Path.{_≡_};
 ghost use Prim.Native.Nat.{_*_, _≤_};
 ghost use lib.ListN.{length};
-ghost use Rattle.tessellate_spec.specs.Outcome.{refusedAs};
-ghost use Rattle.tessellate_spec.specs.Gives.{Gives};
-ghost use Rattle.mesh_made.specs.Ends.{Keeps, Closes};
-use mesh::TriMesh;
+ghost use Rattle.mesh_made.specs.Made.{recordOf, refusedWith, acceptedWith, shortWork};
+ghost use Rattle.mesh_made.specs.Steps.{judged, Keeps, Ends};
+use mesh_check::TriMesh;
 use refusal::Refusal;
-use tessellate_spec::Tessellated;
+use weld::Welder;
+
+// What such a call answers: refused or accepted, and the record of the mesh, the empty one where it was refused.
+pub struct Made {
+    pub refusal: Refusal,
+    pub mesh: TriMesh,
+}
+
+// The record of a mesh of so many vertices and triangles.
+fn record_of(vertices: usize, triangles: usize) -> TriMesh
+    ensures { λ r. ⌜ r ≡ recordOf vertices triangles ⌝ }
+{
+    TriMesh {
+        vertices,
+        triangles,
+    }
+}
+
+// A refused call.
+pub fn refused(refusal: Refusal) -> Made
+    ensures { λ r. ⌜ r ≡ refusedWith refusal ⌝ }
+{
+    Made {
+        refusal,
+        mesh: record_of(0, 0),
+    }
+}
+
+// An accepted call.
+pub fn accepted(mesh: TriMesh) -> Made
+    ensures { λ r. ⌜ r ≡ acceptedWith mesh ⌝ }
+{
+    Made {
+        refusal: Refusal::Accepted,
+        mesh,
+    }
+}
+
+// Refusal 6: fewer than two numbers of work for each whole vertex place.
+pub fn short_work(vertices: usize, work: usize) -> bool
+    ensures { λ r. ⌜ r ≡ shortWork vertices work ⌝ }
+{
+    work < 2 * (vertices / 3)
+}
+
+// Refusals 5 and 7, as the welder tells them, or its mesh.
+pub fn judge(w: Welder) -> Made
+    ensures { λ r. ⌜ r ≡ judged w ⌝ }
+{
+    let finite = w.finite;
+    let room = w.room;
+    if !finite {
+        return refused(Refusal::PointNotFinite);
+    }
+    if !room {
+        return refused(Refusal::NoRoom);
+    }
+    accepted(record_of(w.count, w.faces))
+}
 
 // The counted places stay. Every later place is zero, a broken last one included, and so is the work slice.
-fn keep(n: usize, k: usize, vertices: &mut [f64], triangles: &mut [u32], work: &mut [u32])
-    requires { ⌜ (3 * n ≤ length (now vertices)) × (3 * k ≤ length (now triangles)) ⌝ }
-    ensures { λ _. ⌜ Keeps n k (now (vertices .entry)) (now (triangles .entry)) (now (work .entry))
+fn keep(mesh: TriMesh, vertices: &mut [f64], triangles: &mut [u32], work: &mut [u32])
+    requires { ⌜ (3 * mesh .vertices ≤ length (now vertices)) × (3 * mesh .triangles ≤ length (now triangles)) ⌝ }
+    ensures { λ _. ⌜ Keeps mesh (now (vertices .entry)) (now (triangles .entry)) (now (work .entry))
         (now (vertices .exit)) (now (triangles .exit)) (now (work .exit)) ⌝ }
 {
-    slice::clear_floats(vertices, 3 * n);
-    slice::clear_numbers(triangles, 3 * k);
+    slice::clear_floats(vertices, 3 * mesh.vertices);
+    slice::clear_numbers(triangles, 3 * mesh.triangles);
     slice::clear_numbers(work, 0);
 }
 
-// Refused: counts 0, and every place of the three slices zero.
-pub fn refuse(
-    refusal: Refusal,
-    vertices: &mut [f64],
-    triangles: &mut [u32],
-    work: &mut [u32],
-) -> Tessellated
-    ensures { λ r. ⌜ Gives
-        (refusedAs refusal (length (now (vertices .entry))) (length (now (triangles .entry))) (length (now (work .entry))))
+// The end of the call: a refused one leaves zeros, an accepted one the mesh.
+pub fn end(made: Made, vertices: &mut [f64], triangles: &mut [u32], work: &mut [u32]) -> Made
+    requires { ⌜ (3 * made .mesh .vertices ≤ length (now vertices)) × (3 * made .mesh .triangles ≤ length (now triangles)) ⌝ }
+    ensures { λ r. ⌜ Ends made (now (vertices .entry)) (now (triangles .entry)) (now (work .entry))
         r (now (vertices .exit)) (now (triangles .exit)) (now (work .exit)) ⌝ }
 {
-    keep(0, 0, vertices, triangles, work);
-    Tessellated {
-        refusal,
-        mesh: TriMesh {
-            vertices: 0,
-            triangles: 0,
-        },
-    }
-}
-
-// Accepted: the mesh stays.
-pub fn accept(
-    counts: TriMesh,
-    vertices: &mut [f64],
-    triangles: &mut [u32],
-    work: &mut [u32],
-) -> Tessellated
-    requires { ⌜ (3 * counts .vertices ≤ length (now vertices)) × (3 * counts .triangles ≤ length (now triangles)) ⌝ }
-    ensures { λ r. ⌜ Closes counts (now (vertices .entry)) (now (triangles .entry)) (now (work .entry))
-        r (now (vertices .exit)) (now (triangles .exit)) (now (work .exit)) ⌝ }
-{
-    keep(counts.vertices, counts.triangles, vertices, triangles, work);
-    Tessellated {
-        refusal: Refusal::Accepted,
-        mesh: counts,
-    }
+    let mesh = made.mesh;
+    keep(mesh, vertices, triangles, work);
+    made
 }

@@ -13,3 +13,4 @@ pub mod EdgeLaws
 pub mod ProperLaws
 pub mod ClosedLaws
 pub mod ClosedExamples
+pub mod Parts

@@ -22,6 +22,10 @@ tripleAt l i d = (getD l (3 * i) d, getD l (3 * i + 1) d, getD l (3 * i + 2) d)
 abbrev pub putTriple : {P : Type 0} → List P → ℕ → Tri P → List P
 putTriple l i t = set (set (set l (3 * i) (t .0)) (3 * i + 1) (t .1)) (3 * i + 2) (t .2)
 
+-- vertex i replaced by p
+abbrev pub putVertex : List Float → ℕ → Vec3 → List Float
+putVertex vs i p = putTriple vs i (triOf p)
+
 -- the three floats of a vertex, after a matrix
 abbrev pub movedTriple : Mat4 → Tri Float → Tri Float
 movedTriple a t = triOf (transformPoint a (vecOf t))

@@ -23,8 +23,8 @@ use Rattle.shape.specs.declared.Shape.{Shape}
 use Rattle.shape.specs.declared.Shape.the-variants.{Box, MultiBox, Sphere, SphericalShell, Cylinder, CylindricalShell, Polygon, LinPoly, RotPoly, Wire}
 use Rattle.shape.proofs.Shape as ofShape
 use Rattle.shape.specs.declared.TessellationOptions.{TessellationOptions}
-use Rattle.solid_parts.specs.Parts.{PartsRun}
-use Rattle.solid_parts.specs.PartsLaws.{parts-one}
+use Rattle.weld.specs.Parts.{PartsRun}
+use Rattle.weld.specs.PartsLaws.{parts-one}
 use Rattle.tessellate_spec.specs.Solid.{partsOf}
 use Rattle.solid.specs.Limits.{Listed}
 use Rattle.solid.specs.Soups.{solidSoup, tubeSoup, outlineSoup}

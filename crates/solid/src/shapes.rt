@@ -1,7 +1,7 @@
 // The match of tessellate in src/tessellate.rs.
 ghost use mathlib.Core.Path.{_≡_};
 ghost use Rattle.weld.specs.Rep.{held, Ready};
-ghost use Rattle.solid_parts.specs.Parts.{PartsRun};
+ghost use Rattle.weld.specs.Parts.{PartsRun};
 ghost use Rattle.tessellate_spec.specs.Solid.{partsOf};
 ghost use Rattle.solid.specs.Limits.{Bounded, Listed};
 use crate::outlines;

@@ -9,4 +9,4 @@ use Rattle.weld.proofs.Places.{places-limit}
 
 -- the first vertex of a part has a number of 32 bits
 pub base-small : (w : Welder) (vs : List Float) (ws : List ℕ) → Linked w vs ws → w .base < 2 ^ 32
-base-small w vs ws L = omega (arith, L .stored .based, L .stored .within, L .places, places-limit vs)
+base-small w vs ws L = omega (arith, L .distinct .based, L .distinct .fits, L .places, places-limit vs)

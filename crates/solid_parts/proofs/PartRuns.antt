@@ -17,8 +17,8 @@ use Rattle.mesh_spec.specs.Slices.{vertexAt}
 use Rattle.solid_spec.specs.Sphere.{sphere}
 use Rattle.solid_spec.specs.Cylinder.{cylinder}
 use Rattle.solid_spec.specs.Wire.{wirePoint, wireTubes, wireJoints, wireParts}
-use Rattle.solid_parts.specs.Parts.{PartsRun}
-use Rattle.solid_parts.specs.PartsLaws.{parts-none, parts-one, parts-then, parts-as}
+use Rattle.weld.specs.Parts.{PartsRun}
+use Rattle.weld.specs.PartsLaws.{parts-none, parts-one, parts-then, parts-as}
 
 module _ (f : ℕ → Soup) where
   pub loop-none : (h : Held) → Ready h → PartsRun (parts 0 f) h h

@@ -6,7 +6,7 @@ ghost use lib.ListN.{length};
 ghost use Rattle.weld.specs.Rep.{held, Ready};
 ghost use Rattle.solid_spec.specs.Boxes.{boxShape, multiBoxParts};
 ghost use Rattle.mesh_spec.specs.Slices.{vertexAt};
-ghost use Rattle.solid_parts.specs.Parts.{PartsRun};
+ghost use Rattle.weld.specs.Parts.{PartsRun};
 use weld::Welder;
 
 // Box i of a multi-box is a part.

@@ -9,7 +9,7 @@ ghost use Rattle.weld.specs.Rep.{held, Ready};
 ghost use Rattle.solid_spec.specs.Sphere.{sphere};
 ghost use Rattle.solid_spec.specs.Cylinder.{cylinder};
 ghost use Rattle.solid_spec.specs.Wire.{wirePoint, wireTubes, wireJoints, wireParts};
-ghost use Rattle.solid_parts.specs.Parts.{PartsRun};
+ghost use Rattle.weld.specs.Parts.{PartsRun};
 use math::Vec3;
 use weld::Welder;
 

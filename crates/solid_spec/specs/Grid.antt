@@ -5,10 +5,7 @@ use Prim.Native.Nat.{ℕ, _+_}
 use Rattle.math.specs.declared.Vec3.{Vec3}
 use Rattle.mesh_balance_spec.specs.Soup.{Tri}
 use Rattle.mesh_balance_spec.specs.Grid.{quad, upto}
-
--- the Rust's `struct Soup`, by its list
-abbrev pub Soup : Type 0
-Soup = List (Tri Vec3)
+pub use Rattle.mesh_spec.specs.Parts.{Soup}
 
 module _ {P : Type 0} where
   -- one cell of `Soup::grid`: `quad(a, b, c, d)`, or `quad(a, d, c, b)` where flip says so

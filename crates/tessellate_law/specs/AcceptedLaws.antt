@@ -17,11 +17,12 @@ use Rattle.mesh_spec.specs.Mesh.{Mesh}
 use Rattle.mesh_spec.specs.Slices.{points}
 use Rattle.mesh_spec.specs.SliceLaws.{points-flatV, take-flat, take-flatV}
 use Rattle.shape.specs.DrawingLaws.{AcceptedDrawing, accepted}
-use Rattle.mesh_check.specs.State.{state, meshOf}
-use Rattle.tessellate_spec.specs.Solid.{partsFinite}
-use Rattle.tessellate_spec.specs.Outcome.{Job, Outcome, jobParts, finalMesh, weldedMesh, refusedAs, acceptedAs, tessellateOf}
 use Rattle.refusal.specs.Accepted.{isAccepted, orElse}
-use Rattle.tessellate_spec.specs.Outcome.{shortWork, jobRefusal, badSoup, tooFewPlaces, badVertex, refusalOf}
+use Rattle.mesh_spec.specs.Parts.{partsFinite}
+use Rattle.mesh_check.specs.State.{meshOf}
+use Rattle.mesh_check.specs.State.{tooFewPlaces}
+use Rattle.mesh_made.specs.Made.{Lent, shortWork, Ending, refusedAs, acceptedAs, madeAs}
+use Rattle.tessellate_spec.specs.Outcome.{Job, jobParts, finalMesh, weldedMesh, jobRefusal, badSoup, badVertex, refusalOf, tessellateOf}
 use Rattle.refusal.specs.Laws.{accepted-is}
 use Rattle.tessellate_law.specs.Words.{Accepts, given}
 
@@ -41,52 +42,50 @@ both r s = go (isAccepted r) refl
 
 -- ---- accepted outcomes
 
-pub record AcceptedJob (j : Job) (nv nt nw : ℕ) : Type 0 where
+pub record AcceptedJob (j : Job) (n : Lent) : Type 0 where
   pub drawing : AcceptedDrawing (j .shape) (j .list) (j .own) (j .default) (j .options) (j .ops) (j .count) (j .degrees)
   pub soup : partsFinite (jobParts j) ≡ true
-  pub outcome : tessellateOf j nv nt nw ≡ acceptedAs (finalMesh j) nv nt nw
+  pub outcome : tessellateOf j n ≡ acceptedAs (finalMesh j) n
 
 -- no refusal
-refusal-none : (j : Job) (nv nt nw : ℕ) → Accepts j nv nt nw → refusalOf j nv nt nw ≡ Accepted
-unfolding tessellateOf acceptedAs refusedAs
-refusal-none j nv nt nw = go (isAccepted r) refl
+refusal-none : (j : Job) (n : Lent) → Accepts j n → refusalOf j n ≡ Accepted
+unfolding tessellateOf madeAs acceptedAs refusedAs
+refusal-none j n = go (isAccepted r) refl
   where
     r : Refusal
-    r = refusalOf j nv nt nw
+    r = refusalOf j n
 
-    go : (b : Bool) → isAccepted r ≡ b → cond b (acceptedAs (finalMesh j) nv nt nw) (refusedAs r nv nt nw) .refusal ≡ Accepted → r ≡ Accepted
+    go : (b : Bool) → isAccepted r ≡ b → cond b (acceptedAs (finalMesh j) n) (refusedAs r n) .refusal ≡ Accepted → r ≡ Accepted
     go true q e = accepted-is r q
     go false q e = e
 
-outcome-is : (j : Job) (nv nt nw : ℕ) → refusalOf j nv nt nw ≡ Accepted → tessellateOf j nv nt nw ≡ acceptedAs (finalMesh j) nv nt nw
-unfolding tessellateOf
-outcome-is j nv nt nw e = ap (λ (r : Refusal). cond (isAccepted r) (acceptedAs (finalMesh j) nv nt nw) (refusedAs r nv nt nw)) e
+outcome-is : (j : Job) (n : Lent) → refusalOf j n ≡ Accepted → tessellateOf j n ≡ acceptedAs (finalMesh j) n
+unfolding tessellateOf madeAs
+outcome-is j n e = ap (λ (r : Refusal). madeAs r (finalMesh j) n) e
 
-pub accepted-says : (j : Job) (nv nt nw : ℕ) → Accepts j nv nt nw → AcceptedJob j nv nt nw
+pub accepted-says : (j : Job) (n : Lent) → Accepts j n → AcceptedJob j n
 unfolding refusalOf jobRefusal badSoup
-accepted-says j nv nt nw h =
-    let e : refusalOf j nv nt nw ≡ Accepted = refusal-none j nv nt nw h in
-    let later = cond (tooFewPlaces (weldedMesh j) nv nt) NoRoom (cond (badVertex j) PointNotFinite Accepted) in
-    let p = passed (shortWork nv nw) ShortWork (orElse (jobRefusal j) (cond (badSoup j) PointNotFinite later)) (λ n. omega (arith, n)) e in
+accepted-says j n h =
+    let e : refusalOf j n ≡ Accepted = refusal-none j n h in
+    let later = cond (tooFewPlaces (weldedMesh j) (n .vertices) (n .triangles)) NoRoom (cond (badVertex j) PointNotFinite Accepted) in
+    let p = passed (shortWork (n .vertices) (n .work)) ShortWork (orElse (jobRefusal j) (cond (badSoup j) PointNotFinite later)) (λ z. omega (arith, z)) e in
     let q = both (jobRefusal j) (cond (badSoup j) PointNotFinite later) (p .1) in
-    let s = passed (badSoup j) PointNotFinite later (λ n. omega (arith, n)) (q .1) in
+    let s = passed (badSoup j) PointNotFinite later (λ z. omega (arith, z)) (q .1) in
     record {
       drawing = accepted (j .shape) (j .list) (j .own) (j .default) (j .options) (j .ops) (j .count) (j .degrees) (q .0);
       soup = not-false (partsFinite (jobParts j)) (s .0);
-      outcome = outcome-is j nv nt nw e;
+      outcome = outcome-is j n e;
     }
 
 -- ---- the mesh in the slices
 
-laid : (m : Mesh) (nv nt nw : ℕ) → meshOf (let o = acceptedAs m nv nt nw in state (o .mesh) (o .vertices) (o .triangles)) ≡ m
+laid : (m : Mesh) (n : Lent) → meshOf (acceptedAs m n .state) ≡ m
 unfolding meshOf acceptedAs
-laid m nv nt nw =
-    let v = ap {B = List Vec3} points (take-flatV (m .vertices) (replicate (nv - 3 * length (m .vertices)) (ofBits binary64 0))) ∙ points-flatV (m .vertices) in
-    let t = ap {B = List (Tri ℕ)} tris (take-flat (m .triangles) (replicate (nt - 3 * length (m .triangles)) 0)) ∙ tris-flat (m .triangles) in
+laid m n =
+    let v = ap {B = List Vec3} points (take-flatV (m .vertices) (replicate (n .vertices - 3 * length (m .vertices)) (ofBits binary64 0))) ∙ points-flatV (m .vertices) in
+    let t = ap {B = List (Tri ℕ)} tris (take-flat (m .triangles) (replicate (n .triangles - 3 * length (m .triangles)) 0)) ∙ tris-flat (m .triangles) in
     λ i. record { vertices = v i; triangles = t i }
 
 -- the slices of an accepted outcome hold the final mesh
-pub given-final : (j : Job) (nv nt nw : ℕ) → Accepts j nv nt nw → given j nv nt nw ≡ finalMesh j
-given-final j nv nt nw h =
-    ap (λ (o : Outcome). meshOf (state (o .mesh) (o .vertices) (o .triangles))) (accepted-says j nv nt nw h .outcome)
-    ∙ laid (finalMesh j) nv nt nw
+pub given-final : (j : Job) (n : Lent) → Accepts j n → given j n ≡ finalMesh j
+given-final j n h = ap (λ (o : Ending). meshOf (o .state)) (accepted-says j n h .outcome) ∙ laid (finalMesh j) n

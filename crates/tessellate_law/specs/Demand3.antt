@@ -3,7 +3,6 @@
 use mathlib.Core.Path.{sym, subst}
 use mathlib.Core.Bool.{Bool, true, false, cond}
 use mathlib.Core.List.{List, [], _∷_}
-use Prim.Native.Nat.{ℕ}
 use lib.ListN.{take}
 use lib.Dec.{ltb}
 use lib.Ieee.{binary64, lt, ofBits}
@@ -18,12 +17,13 @@ use Rattle.mesh_spec.specs.ProperLaws.{append-none-twice, flip-none-twice, tran
 use Rattle.mesh_spec.specs.Welded.{fromSoup-proper}
 use Rattle.solid_spec.specs.Grid.{Soup}
 use Rattle.shape.specs.declared.Shape.{Shape}
-use Rattle.shape.specs.declared.Shape.the-variants.{Box, MultiBox, Sphere, SphericalShell, Cylinder, CylindricalShell, Polygon, LinPoly, RotPoly, Wire}
 use Rattle.shape.specs.Drawing.{cylindrical, shapeCs}
 use Rattle.mesh_check.specs.State.{meshOf}
 use Rattle.mesh.specs.Lists.{Call, after, AllBring, KeptByLists, kept-by-lists}
-use Rattle.tessellate_spec.specs.Solid.{outward, solidMesh}
-use Rattle.tessellate_spec.specs.Outcome.{Job, jobParts, weldedMesh, finalMesh}
+use Rattle.mesh_made.specs.Made.{Lent}
+use Rattle.shape.specs.Rotated.{isRotPoly}
+use Rattle.tessellate_spec.specs.Solid.{outward, outwardIf, solidMesh}
+use Rattle.tessellate_spec.specs.Outcome.{Job, jobParts, weldedMesh, placed, finalMesh}
 use Rattle.tessellate_law.specs.Words.{Accepts, left, given, FitsJob, Solid}
 use Rattle.tessellate_law.specs.AcceptedLaws.{accepted-says, given-final}
 use Rattle.tessellate_law.specs.PartsClosed.{parts-balanced, parts-closed}
@@ -33,27 +33,27 @@ use Rattle.solid_spec.specs.BalancedParts.{EachPart}
 
 pub record Demand3 : Type 0 where
   -- an accepted solid of the list is closed: its edges balance, no triangle names one vertex twice or a vertex that isn't there
-  pub closed : (j : Job) (nv nt nw : ℕ) → Accepts j nv nt nw → FitsJob j → Solid (j .shape) (j .list) → Closed (given j nv nt nw)
+  pub closed : (j : Job) (n : Lent) → Accepts j n → FitsJob j → Solid (j .shape) (j .list) → Closed (given j n)
   -- of every accepted shape, no triangle names one vertex twice
-  pub noneTwice : (j : Job) (nv nt nw : ℕ) → Accepts j nv nt nw → NoneTwice (given j nv nt nw)
+  pub noneTwice : (j : Job) (n : Lent) → Accepts j n → NoneTwice (given j n)
   -- nor a vertex that isn't there
-  pub allThere : (j : Job) (nv nt nw : ℕ) → Accepts j nv nt nw → AllThere (given j nv nt nw)
+  pub allThere : (j : Job) (n : Lent) → Accepts j n → AllThere (given j n)
   -- any list of appends, flips and transforms keeps a mesh closed, and keeps each of the three properties by itself, for any start
   pub lists : KeptByLists
   -- so an accepted solid of the list is closed after any list of calls in which each mesh appended is closed
-  pub closedAfter : (j : Job) (nv nt nw : ℕ) → Accepts j nv nt nw → FitsJob j → Solid (j .shape) (j .list)
-      → (calls : List Call) → AllBring Closed calls (left j nv nt nw) → Closed (meshOf (after (left j nv nt nw) calls))
+  pub closedAfter : (j : Job) (n : Lent) → Accepts j n → FitsJob j → Solid (j .shape) (j .list)
+      → (calls : List Call) → AllBring Closed calls (left j n) → Closed (meshOf (after (left j n) calls))
 
 -- ---- what the mesh of a job keeps
 
 -- a property of the empty mesh, of each welded soup, and kept by the three edits
-record Held (P : Mesh → Type 0) : Type 0 where
+record Kept (P : Mesh → Type 0) : Type 0 where
   empty : P noMesh
   appended : (m o : Mesh) → P m → P o → P (append m o)
   flipped : (m : Mesh) → P m → P (flip m)
   transformed : (a : Mat4) (m : Mesh) → P m → P (transform a m)
 
-module _ (P : Mesh → Type 0) (k : Held P) where
+module _ (P : Mesh → Type 0) (k : Kept P) where
   appended-parts : (m : Mesh) (ps : List Soup) → P m → EachPart (λ s. P (fromSoup s)) ps → P (appendParts m ps)
   unfolding appendParts
   appended-parts m [] h e = h
@@ -73,19 +73,14 @@ module _ (P : Mesh → Type 0) (k : Held P) where
 
   solid : (s : Shape) (ps : List Soup) → P (fromParts ps) → P (solidMesh s ps)
   unfolding solidMesh
-  solid (Box a b) ps h = h
-  solid MultiBox ps h = h
-  solid (Sphere c r) ps h = h
-  solid (SphericalShell c r w) ps h = h
-  solid (Cylinder a b r) ps h = h
-  solid (CylindricalShell a b r w) ps h = h
-  solid (Polygon n e) ps h = h
-  solid (LinPoly n e l) ps h = h
-  solid (RotPoly n e a s t) ps h = turned (fromParts ps) h
-  solid (Wire r) ps h = h
+  solid s ps h = go (isRotPoly s)
+    where
+      go : (b : Bool) → P (outwardIf b (fromParts ps))
+      go true = turned (fromParts ps) h
+      go false = h
 
   final : (j : Job) → EachPart (λ s. P (fromSoup s)) (jobParts j) → P (finalMesh j)
-  unfolding finalMesh weldedMesh
+  unfolding finalMesh placed weldedMesh
   final j e = go (ltb 0 (j .count))
     where
       welded : P (weldedMesh j)
@@ -101,27 +96,27 @@ each Q h (p ∷ ps) = (h p, each Q h ps)
 
 -- ---- the proof
 
-is-closed : (j : Job) (nv nt nw : ℕ) → Accepts j nv nt nw → FitsJob j → Solid (j .shape) (j .list) → Closed (given j nv nt nw)
+is-closed : (j : Job) (n : Lent) → Accepts j n → FitsJob j → Solid (j .shape) (j .list) → Closed (given j n)
 unfolding jobParts
-is-closed j nv nt nw h f s =
-    let a = accepted-says j nv nt nw h in
+is-closed j n h f s =
+    let a = accepted-says j n h in
     let d = a .drawing in
     let cyl = cylindrical (shapeCs (j .shape) (j .own) (j .default)) in
     let b = parts-balanced cyl (j .list) (j .options) (d .segments-most) (f .list) (j .shape) (f .shape) (d .shape-finite) (d .list-finite) s in
-    subst Closed (sym (given-final j nv nt nw h))
+    subst Closed (sym (given-final j n h))
     (final Closed (record { empty = no-mesh-closed; appended = append-closed; flipped = flip-closed; transformed = transform-closed }) j (parts-closed (jobParts j) b (a .soup)))
 
-is-none-twice : (j : Job) (nv nt nw : ℕ) → Accepts j nv nt nw → NoneTwice (given j nv nt nw)
+is-none-twice : (j : Job) (n : Lent) → Accepts j n → NoneTwice (given j n)
 unfolding allOf
-is-none-twice j nv nt nw h =
-    subst NoneTwice (sym (given-final j nv nt nw h))
+is-none-twice j n h =
+    subst NoneTwice (sym (given-final j n h))
     (final NoneTwice (record { empty = tt; appended = append-none-twice; flipped = flip-none-twice; transformed = transform-none-twice }) j
     (each (λ s. NoneTwice (fromSoup s)) (λ s. fromSoup-proper s .noneTwice) (jobParts j)))
 
-is-all-there : (j : Job) (nv nt nw : ℕ) → Accepts j nv nt nw → AllThere (given j nv nt nw)
+is-all-there : (j : Job) (n : Lent) → Accepts j n → AllThere (given j n)
 unfolding allOf
-is-all-there j nv nt nw h =
-    subst AllThere (sym (given-final j nv nt nw h))
+is-all-there j n h =
+    subst AllThere (sym (given-final j n h))
     (final AllThere (record { empty = tt; appended = append-all-there; flipped = flip-all-there; transformed = transform-all-there }) j
     (each (λ s. AllThere (fromSoup s)) (λ s. fromSoup-proper s .allThere) (jobParts j)))
 
@@ -131,5 +126,5 @@ demand3 = record {
   noneTwice = is-none-twice;
   allThere = is-all-there;
   lists = kept-by-lists;
-  closedAfter = λ j nv nt nw h f s calls b. kept-by-lists .closed (left j nv nt nw) calls (is-closed j nv nt nw h f s) b;
+  closedAfter = λ j n h f s calls b. kept-by-lists .closed (left j n) calls (is-closed j n h f s) b;
 }

@@ -39,7 +39,8 @@ use Rattle.shape.specs.declared.TessellationOptions.{TessellationOptions}
 use Rattle.shape.specs.Drawing.{itemsOf, listOf, shapeFinite}
 use Rattle.shape.specs.DrawingLaws.{finite-at}
 use Rattle.slice.specs.Every.{every}
-use Rattle.tessellate_spec.specs.Solid.{partsOf, partsFinite}
+use Rattle.mesh_spec.specs.Parts.{partsFinite}
+use Rattle.tessellate_spec.specs.Solid.{partsOf}
 use Rattle.tessellate_law.specs.Words.{FitsShape, UnequalBounds, EachUnequal, FullTurn, Solid}
 use Rattle.solid_spec.specs.Fits.{FiniteV, FitsV, Bounded, FitsAll}
 use Rattle.solid_spec.specs.BalancedParts.{EachPart, BalancedPart}

@@ -30,8 +30,9 @@ use Rattle.shape.specs.declared.CoordSystem.the-variants.{Cartesian}
 use Rattle.shape.specs.declared.OwnSystem.the-variants.{Inherited}
 use Rattle.shape.specs.declared.TessellationOptions.{TessellationOptions}
 use Rattle.shape.specs.Drawing.{effectiveCs, shapeCs, cylindrical}
+use Rattle.shape.specs.Rotated.{isRotPoly}
 use Rattle.tessellate_spec.specs.Solid.{partsOf, solidMesh}
-use Rattle.tessellate_spec.specs.Outcome.{Job, jobParts, weldedMesh, finalMesh}
+use Rattle.tessellate_spec.specs.Outcome.{Job, jobParts, weldedMesh, placed, finalMesh}
 
 -- ---- the drawings
 
@@ -112,7 +113,7 @@ pub record Figures : Type 0 where
 -- ---- what it takes to compute them
 
 unfoldable meshes : Job → Mesh
-unfolding finalMesh weldedMesh jobParts partsOf solidMesh fromParts appendParts append fromSoup weldSoup weldTriangle withPoint firstSight samePoint plusZeroV
+unfolding finalMesh placed weldedMesh jobParts partsOf solidMesh isRotPoly fromParts appendParts append fromSoup weldSoup weldTriangle withPoint firstSight samePoint plusZeroV
     shapeCs effectiveCs cylindrical boxShape paramBox faces face grid facePoint withAxis coord axis vMin vMax minimum maximum sphereSoup sphere
     isNan lt le eq add sub mul div ofInt ofBits
 meshes = finalMesh

@@ -20,23 +20,24 @@ use Rattle.solid_spec.specs.Cylinder.{innerRadius, outerRadius}
 use Rattle.solid_spec.specs.Polygons.{capTriangles, lowEnd, highEnd, swaps}
 use Rattle.shape.specs.declared.Shape.{Shape}
 use Rattle.shape.specs.declared.Shape.the-variants.{Box, MultiBox, Sphere, SphericalShell, Cylinder, CylindricalShell, Polygon, LinPoly, RotPoly, Wire}
-use Rattle.mesh_check.specs.State.{State, state, meshOf}
+use Rattle.mesh_check.specs.State.{State, meshOf}
+use Rattle.mesh_made.specs.Made.{Lent}
 use Rattle.tessellate_spec.specs.Outcome.{Job, tessellateOf}
 use Rattle.solid_spec.specs.Fits.{FitsV, FitsAll}
 
 -- ---- accepted, and the mesh
 
 -- `tessellate` returned no refusal
-abbrev pub Accepts : Job → ℕ → ℕ → ℕ → Type 0
-Accepts j nv nt nw = tessellateOf j nv nt nw .refusal ≡ Accepted
+abbrev pub Accepts : Job → Lent → Type 0
+Accepts j n = tessellateOf j n .refusal ≡ Accepted
 
 -- the record and the two mesh slices as the call leaves them, which is how `append`, `flip` and `transform` take them
-abbrev pub left : Job → ℕ → ℕ → ℕ → State
-left j nv nt nw = let o = tessellateOf j nv nt nw in state (o .mesh) (o .vertices) (o .triangles)
+abbrev pub left : Job → Lent → State
+left j n = tessellateOf j n .state
 
 -- the mesh in them: the counted vertices and triangles
-abbrev pub given : Job → ℕ → ℕ → ℕ → Mesh
-given j nv nt nw = meshOf (left j nv nt nw)
+abbrev pub given : Job → Lent → Mesh
+given j n = meshOf (left j n)
 
 -- ---- the floats of a program
 

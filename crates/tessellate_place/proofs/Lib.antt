@@ -1,4 +1,3 @@
 -- Laws that the proofs of `tessellate_place` use.
-pub mod Lying
 pub mod Turning
 pub mod Moving

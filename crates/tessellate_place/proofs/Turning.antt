@@ -1,60 +1,23 @@
 -- The end of the case RotPoly: a mesh turned outward. Assumes nothing.
-use mathlib.Core.Path.{_≡_, refl, sym, ap, _∙_, subst}
+use mathlib.Core.Path.{_≡_, sym, ap, _∙_}
 use mathlib.Core.Bool.{Bool, true, false, cond}
 use mathlib.Core.List.{List}
 use Prim.Native.Nat.{ℕ}
-use lib.ListN.{length, length-map}
 use lib.Ieee.{Float, binary64, lt, div, ofBits}
-use Rattle.mesh_balance_spec.specs.Soup.{Tri}
 use Rattle.mesh_balance_spec.specs.Soup.{flip as flipTri}
-use Rattle.mesh_spec.specs.Mesh.{Mesh, flip, fromParts}
+use Rattle.mesh_spec.specs.Mesh.{Mesh, flip}
 use Rattle.mesh_spec.specs.Closed.{AllThere}
 use Rattle.mesh_spec.specs.ProperLaws.{flip-all-there}
 use Rattle.mesh_spec.specs.Measures.{signedVolume, sumOf, volumeTerm}
-use Rattle.solid_spec.specs.Grid.{Soup}
-use Rattle.shape.specs.declared.Shape.{Shape}
-use Rattle.shape.specs.declared.Shape.the-variants.{Box, MultiBox, Sphere, SphericalShell, Cylinder, CylindricalShell, Polygon, LinPoly, RotPoly, Wire}
 use Rattle.mesh_check.specs.State.{State, state, meshOf, stored, Sound}
 use Rattle.mesh_triples.specs.Triples.{eachTo, cornersOf}
 use Rattle.mesh_check.proofs.Stored.{stored-flip}
 use Rattle.mesh_measures.proofs.Readings.{sum-is}
 use Rattle.mesh_sums.proofs.Terms.{volume-is}
-use Rattle.tessellate_spec.specs.Solid.{outward, solidMesh}
-use Rattle.shape.specs.Rotated.{isRotPoly}
-use Rattle.tessellate_place.specs.Ends.{turned}
-use Rattle.tessellate_place.proofs.Lying.{stored-self}
+use Rattle.mesh_check.proofs.Lying.{stored-self}
+use Rattle.tessellate_spec.specs.Solid.{outward, outwardIf}
 
--- the mesh of a shape from its parts, with one test for the case RotPoly
-pub solid-turned : (shape : Shape) (parts : List Soup) → solidMesh shape parts ≡ turned (isRotPoly shape) (fromParts parts)
-unfolding solidMesh isRotPoly
-solid-turned (Box start stop) parts = refl
-solid-turned MultiBox parts = refl
-solid-turned (Sphere center radius) parts = refl
-solid-turned (SphericalShell center radius width) parts = refl
-solid-turned (Cylinder start stop radius) parts = refl
-solid-turned (CylindricalShell start stop radius width) parts = refl
-solid-turned (Polygon normal elevation) parts = refl
-solid-turned (LinPoly normal elevation length) parts = refl
-solid-turned (RotPoly normal elevation axis start stop) parts = refl
-solid-turned (Wire radius) parts = refl
-
--- turning keeps the counts
-flips-or : (b : Bool) (m : Mesh) → (length (cond b (flip m) m .vertices) ≡ length (m .vertices)) × (length (cond b (flip m) m .triangles) ≡ length (m .triangles))
-unfolding flip
-flips-or true m = (refl, length-map (m .triangles) flipTri)
-flips-or false m = (refl, refl)
-
-pub turned-vertices : (b : Bool) (m : Mesh) → length (turned b m .vertices) ≡ length (m .vertices)
-unfolding outward
-turned-vertices true m = flips-or (lt (signedVolume m) (ofBits binary64 0)) m .0
-turned-vertices false m = refl
-
-pub turned-triangles : (b : Bool) (m : Mesh) → length (turned b m .triangles) ≡ length (m .triangles)
-unfolding outward
-turned-triangles true m = flips-or (lt (signedVolume m) (ofBits binary64 0)) m .1
-turned-triangles false m = refl
-
--- and names no new vertex
+-- turning names no new vertex
 flips-there : (b : Bool) (m : Mesh) → AllThere m → AllThere (cond b (flip m) m)
 flips-there true m h = flip-all-there m h
 flips-there false m h = h
@@ -63,9 +26,9 @@ outward-there : (m : Mesh) → AllThere m → AllThere (outward m)
 unfolding outward
 outward-there m h = flips-there (lt (signedVolume m) (ofBits binary64 0)) m h
 
-pub turned-there : (b : Bool) (m : Mesh) → AllThere m → AllThere (turned b m)
-turned-there true m h = outward-there m h
-turned-there false m h = h
+pub outwardIf-there : (b : Bool) (m : Mesh) → AllThere m → AllThere (outwardIf b m)
+outwardIf-there true m h = outward-there m h
+outwardIf-there false m h = h
 
 outward-flips : (m : Mesh) → lt (signedVolume m) (ofBits binary64 0) ≡ true → outward m ≡ flip m
 unfolding outward

@@ -1,4 +1,4 @@
-// The end of the call `tessellate`: the welded mesh turned outward, under the operations, tested, and zeros in the unused places.
+// The end of the call `tessellate`: the welded mesh turned outward, and under the operations.
 mod place;
 mod turn;
 

@@ -1,80 +1,58 @@
 // The operations: `mesh.transform(..)` unless there are none.
-ghost use mathlib.Core.Path.{_≡_};
-ghost use lib.ListN.{length};
 ghost use Rattle.mesh_spec.specs.Edits.{transform};
-ghost use Rattle.mesh_check.specs.State.{state, meshOf, stored, Sound};
-ghost use Rattle.tessellate_spec.specs.Gives.{Gives};
-ghost use Rattle.tessellate_place.specs.Ends.{movedAs, placedAs, turned, Whole};
+ghost use Rattle.mesh_check.specs.State.{state, meshOf, Sound};
+ghost use Rattle.mesh_check.specs.Places.{Whole};
+ghost use Rattle.mesh_made.specs.Steps.{Makes};
+ghost use Rattle.tessellate_spec.specs.Solid.{outwardIf};
+ghost use Rattle.tessellate_spec.specs.Outcome.{placed};
+ghost use Rattle.tessellate_place.specs.Ends.{movedRefusal, placedRefusal};
 use crate::turn;
 use math_matrix::Mat4;
-use mesh::TriMesh;
+use mesh_check::TriMesh;
+use mesh_made::Made;
 use refusal::Refusal;
-use tessellate_spec::Tessellated;
 use transform::TransformOp;
 
-// Puts the vertices under the matrix, and turns every triangle where its determinant is below 0.
-fn move_mesh(counts: TriMesh, vertices: &mut [f64], triangles: &mut [u32], a: Mat4)
-    requires { ⌜ Sound (state counts (now vertices) (now triangles)) ⌝ }
-    ensures { λ _. ⌜ state counts (now (vertices .exit)) (now (triangles .exit))
-        ≡ stored (transform a (meshOf (state counts (now (vertices .entry)) (now (triangles .entry))))) (state counts (now (vertices .entry)) (now (triangles .entry))) ⌝ }
-{
-    let n = counts.vertices;
-    let k = counts.triangles;
-    mesh_move::move_all(vertices, n, a);
-    if math_matrix_ops::determinant(a) < 0.0 {
-        mesh_write::turn_all(triangles, k);
-        return;
-    }
-}
-
 // The mesh under a matrix, unless a coordinate of it is not finite: refusal 5.
-fn moved(
-    counts: TriMesh,
-    vertices: &mut [f64],
-    triangles: &mut [u32],
-    work: &mut [u32],
-    a: Mat4,
-) -> Tessellated
+fn moved(counts: TriMesh, vertices: &mut [f64], triangles: &mut [u32], a: Mat4) -> Made
     requires { ⌜ Sound (state counts (now vertices) (now triangles)) ⌝ }
-    ensures { λ r. ⌜ Gives
-        (movedAs a (meshOf (state counts (now (vertices .entry)) (now (triangles .entry))))
-        (length (now (vertices .entry))) (length (now (triangles .entry))) (length (now (work .entry))))
-        r (now (vertices .exit)) (now (triangles .exit)) (now (work .exit)) ⌝ }
+    ensures { λ r. ⌜ Makes
+        (movedRefusal a (meshOf (state counts (now (vertices .entry)) (now (triangles .entry)))))
+        (transform a (meshOf (state counts (now (vertices .entry)) (now (triangles .entry)))))
+        r (now (vertices .exit)) (now (triangles .exit)) ⌝ }
 {
     let n = counts.vertices;
     if !mesh_move::stay_finite(vertices, n, a) {
-        return mesh_made::refuse(Refusal::PointNotFinite, vertices, triangles, work);
+        return mesh_made::refused(Refusal::PointNotFinite);
     }
-    move_mesh(counts, vertices, triangles, a);
-    mesh_made::accept(counts, vertices, triangles, work)
+    mesh_move::move_mesh(counts, vertices, triangles, a, false);
+    mesh_made::accepted(counts)
 }
 
 // The mesh under the first `op_count` operations.
-fn placed(
+fn place(
     counts: TriMesh,
     vertices: &mut [f64],
     triangles: &mut [u32],
-    work: &mut [u32],
     ops: [TransformOp; 16],
     op_count: usize,
     degrees: bool,
-) -> Tessellated
+) -> Made
     requires { ⌜ Sound (state counts (now vertices) (now triangles)) ⌝ }
-    ensures { λ r. ⌜ Gives
-        (placedAs ops «op_count» degrees (meshOf (state counts (now (vertices .entry)) (now (triangles .entry))))
-        (length (now (vertices .entry))) (length (now (triangles .entry))) (length (now (work .entry))))
-        r (now (vertices .exit)) (now (triangles .exit)) (now (work .exit)) ⌝ }
+    ensures { λ r. ⌜ Makes
+        (placedRefusal degrees ops «op_count» (meshOf (state counts (now (vertices .entry)) (now (triangles .entry)))))
+        (placed degrees ops «op_count» (meshOf (state counts (now (vertices .entry)) (now (triangles .entry)))))
+        r (now (vertices .exit)) (now (triangles .exit)) ⌝ }
 {
     if 0 < op_count {
         return moved(
             counts,
             vertices,
             triangles,
-            work,
             transform::fold(ops, op_count, degrees),
         );
     }
-    mesh_made::accept(counts, vertices, triangles, work)
+    mesh_made::accepted(counts)
 }
 
 // A welded mesh to its end: a rotated outline is turned outward, then the operations.
@@ -83,17 +61,16 @@ pub fn complete(
     counts: TriMesh,
     vertices: &mut [f64],
     triangles: &mut [u32],
-    work: &mut [u32],
     ops: [TransformOp; 16],
     op_count: usize,
     degrees: bool,
-) -> Tessellated
+) -> Made
     requires { ⌜ Whole (state counts (now vertices) (now triangles)) ⌝ }
-    ensures { λ r. ⌜ Gives
-        (placedAs ops «op_count» degrees (turned rotated (meshOf (state counts (now (vertices .entry)) (now (triangles .entry)))))
-        (length (now (vertices .entry))) (length (now (triangles .entry))) (length (now (work .entry))))
-        r (now (vertices .exit)) (now (triangles .exit)) (now (work .exit)) ⌝ }
+    ensures { λ r. ⌜ Makes
+        (placedRefusal degrees ops «op_count» (outwardIf rotated (meshOf (state counts (now (vertices .entry)) (now (triangles .entry))))))
+        (placed degrees ops «op_count» (outwardIf rotated (meshOf (state counts (now (vertices .entry)) (now (triangles .entry))))))
+        r (now (vertices .exit)) (now (triangles .exit)) ⌝ }
 {
     turn::turn_rotated(rotated, counts, vertices, triangles);
-    placed(counts, vertices, triangles, work, ops, op_count, degrees)
+    place(counts, vertices, triangles, ops, op_count, degrees)
 }

@@ -1,10 +1,8 @@
 // The end of the case RotPoly: `if m.signed_volume() < 0.0 { m.flip(); }`.
 ghost use mathlib.Core.Path.{_≡_};
-ghost use lib.ListN.{length};
 ghost use Rattle.mesh_check.specs.State.{state, meshOf, stored, Sound};
-ghost use Rattle.tessellate_spec.specs.Solid.{outward};
-ghost use Rattle.tessellate_place.specs.Ends.{turned};
-use mesh::TriMesh;
+ghost use Rattle.tessellate_spec.specs.Solid.{outward, outwardIf};
+use mesh_check::TriMesh;
 
 // Turns every triangle where the signed volume is below 0.
 fn turn_outward(counts: TriMesh, vertices: &[f64], triangles: &mut [u32])
@@ -24,7 +22,7 @@ fn turn_outward(counts: TriMesh, vertices: &[f64], triangles: &mut [u32])
 pub fn turn_rotated(rotated: bool, counts: TriMesh, vertices: &[f64], triangles: &mut [u32])
     requires { ⌜ Sound (state counts (now vertices) (now triangles)) ⌝ }
     ensures { λ _. ⌜ state counts (now (vertices .entry)) (now (triangles .exit))
-        ≡ stored (turned rotated (meshOf (state counts (now (vertices .entry)) (now (triangles .entry))))) (state counts (now (vertices .entry)) (now (triangles .entry))) ⌝ }
+        ≡ stored (outwardIf rotated (meshOf (state counts (now (vertices .entry)) (now (triangles .entry))))) (state counts (now (vertices .entry)) (now (triangles .entry))) ⌝ }
 {
     if rotated {
         turn_outward(counts, vertices, triangles);

@@ -30,13 +30,20 @@ use Rattle.shape.specs.declared.TessellationOptions.{TessellationOptions}
 use Rattle.shape.specs.Drawing.{effectiveCs, shapeCs, cylindrical, tooManySegments, itemsOf, badItems, badList, listOf}
 use Rattle.shape.specs.Drawing.{shapeFinite, pointWithin, pointsWithin, shapeWithin, listWithin, numbersBad, anglesBad, drawingRefusal}
 use Rattle.slice.specs.Every.{countedPlaces, every}
-use Rattle.tessellate_spec.specs.Solid.{partsOf, partsFinite, solidMesh}
-use Rattle.tessellate_spec.specs.Outcome.{Job, jobParts, weldedMesh, finalMesh, shortWork, jobRefusal, badSoup, tooFewPlaces}
-use Rattle.refusal.specs.Accepted.{isAccepted, orElse}
-use Rattle.tessellate_spec.specs.Outcome.{badVertex, refusalOf, Outcome, refusedAs, acceptedAs, tessellateOf}
+use Rattle.mesh_spec.specs.Parts.{partsFinite}
+use Rattle.mesh_check.specs.State.{tooFewPlaces}
+use Rattle.mesh_made.specs.Made.{Lent, shortWork, Ending, refusedAs, acceptedAs, madeAs}
+use Rattle.tessellate_spec.specs.Solid.{partsOf, solidMesh}
+use Rattle.tessellate_spec.specs.Outcome.{Job, jobParts, weldedMesh, placed, finalMesh, jobRefusal, badSoup, badPlaced}
+use Rattle.refusal.specs.Accepted.{orElse}
+use Rattle.tessellate_spec.specs.Outcome.{badVertex, refusalOf, tessellateOf}
 
 abbrev float : ℕ → Float
 float n = ofInt binary64 (pos n)
+
+-- slices of so many floats and numbers
+abbrev of : ℕ → ℕ → ℕ → Lent
+of nv nt nw = record { vertices = nv; triangles = nt; work = nw }
 
 -- a box between two points, in a system, with a number of segments, operations and their count
 abbrev boxJob : Vec3 → Vec3 → CoordSystem → ℕ → List TransformOp → ℕ → Job
@@ -62,10 +69,10 @@ abbrev box : Job
 box = boxJob origin corner Cartesian 32 [] 0
 
 -- tessellateOf, with what it takes to compute it
-unfoldable computed : Job → ℕ → ℕ → ℕ → Outcome
-unfolding tessellateOf refusalOf orElse shortWork jobRefusal badSoup tooFewPlaces badVertex acceptedAs refusedAs countedPlaces every partsFinite everyFinite
+unfoldable computed : Job → Lent → Ending
+unfolding tessellateOf madeAs refusalOf orElse shortWork jobRefusal badSoup tooFewPlaces badVertex badPlaced placed acceptedAs refusedAs countedPlaces every partsFinite everyFinite
     drawingRefusal tooManySegments badItems badList numbersBad anglesBad itemsOf listOf shapeFinite vFinite pointWithin pointsWithin within1000 shapeWithin listWithin
-    opsFinite opFinite opsAnglesWithin opAngleWithin finalMesh weldedMesh jobParts partsOf solidMesh fromParts appendParts append fromSoup weldSoup weldTriangle withPoint
+    opsFinite opFinite opsAnglesWithin opAngleWithin finalMesh weldedMesh jobParts partsOf solidMesh isRotPoly fromParts appendParts append fromSoup weldSoup weldTriangle withPoint
     firstSight samePoint plusZeroV shapeCs effectiveCs cylindrical boxShape paramBox faces face grid facePoint withAxis coord axis vMin vMax
     folded foldFrom opMatrix scaling identity product productRow timesRows fromRows transform moved flip transformPoint along overW determinant detRows
     minimum maximum absolute isNan lt le eq ne neg add sub mul div ofInt ofBits
@@ -74,42 +81,40 @@ computed = tessellateOf
 -- ---- what the slices hold
 
 -- 8 vertices and 12 triangles, which just fit; 16 numbers of work are enough
-fits-exactly : tessellateOf box 24 36 16 .refusal ≡ Accepted
+fits-exactly : tessellateOf box (of 24 36 16) .refusal ≡ Accepted
 unfolding computed
 fits-exactly = refl
 
-counts : tessellateOf box 24 36 16 .mesh ≡ record { vertices = 8; triangles = 12 }
+counts : tessellateOf box (of 24 36 16) .state .mesh ≡ record { vertices = 8; triangles = 12 }
 unfolding computed
 counts = refl
 
-first-floats : take 6 (tessellateOf box 24 36 16 .vertices) ≡ float 0 ∷ float 0 ∷ float 0 ∷ float 0 ∷ float 0 ∷ float 3 ∷ []
+first-floats : take 6 (tessellateOf box (of 24 36 16) .state .vertices) ≡ float 0 ∷ float 0 ∷ float 0 ∷ float 0 ∷ float 0 ∷ float 3 ∷ []
 unfolding computed
 first-floats = refl
 
-first-numbers : take 6 (tessellateOf box 24 36 16 .triangles) ≡ 0 ∷ 1 ∷ 2 ∷ 0 ∷ 2 ∷ 3 ∷ []
+first-numbers : take 6 (tessellateOf box (of 24 36 16) .state .triangles) ≡ 0 ∷ 1 ∷ 2 ∷ 0 ∷ 2 ∷ 3 ∷ []
 unfolding computed
 first-numbers = refl
 
 -- unused places are zero, a broken last one included
-rest-of-vertices : drop 24 (tessellateOf box 28 37 18 .vertices) ≡ float 0 ∷ float 0 ∷ float 0 ∷ float 0 ∷ []
+rest-of-vertices : drop 24 (tessellateOf box (of 28 37 18) .state .vertices) ≡ float 0 ∷ float 0 ∷ float 0 ∷ float 0 ∷ []
 unfolding computed
 rest-of-vertices = refl
 
-rest-of-triangles : drop 36 (tessellateOf box 28 37 18 .triangles) ≡ 0 ∷ []
+rest-of-triangles : drop 36 (tessellateOf box (of 28 37 18) .state .triangles) ≡ 0 ∷ []
 unfolding computed
 rest-of-triangles = refl
 
-work-zero : tessellateOf box 24 36 16 .work ≡ replicate 16 0
+work-zero : tessellateOf box (of 24 36 16) .work ≡ replicate 16 0
 unfolding computed
 work-zero = refl
 
 -- refused: counts 0, and every slice zero
-refused-zero : tessellateOf box 4 5 2
+refused-zero : tessellateOf box (of 4 5 2)
     ≡ record {
       refusal = NoRoom;
-      mesh = record { vertices = 0; triangles = 0 };
-      vertices = float 0 ∷ float 0 ∷ float 0 ∷ float 0 ∷ [];
-      triangles = 0 ∷ 0 ∷ 0 ∷ 0 ∷ 0 ∷ [];
+      state = record { mesh = record { vertices = 0; triangles = 0 }; vertices = float 0 ∷ float 0 ∷ float 0 ∷ float 0 ∷ []; triangles = 0 ∷ 0 ∷ 0 ∷ 0 ∷ 0 ∷ [] };
       work = 0 ∷ 0 ∷ [];
     }
 unfolding computed
@@ -118,20 +123,20 @@ refused-zero = refl
 -- ---- the refusals, each at its edge
 
 -- 6: 8 vertex places ask for 16 numbers of work, a broken ninth place for no more
-work-enough : tessellateOf box 26 36 16 .refusal ≡ Accepted
+work-enough : tessellateOf box (of 26 36 16) .refusal ≡ Accepted
 unfolding computed
 work-enough = refl
 
-work-short : tessellateOf box 24 36 15 .refusal ≡ ShortWork
+work-short : tessellateOf box (of 24 36 15) .refusal ≡ ShortWork
 unfolding computed
 work-short = refl
 
 -- 3: 1,024 segments, 1,025
-segments-most : tessellateOf (boxJob origin corner Cartesian 1024 [] 0) 24 36 16 .refusal ≡ Accepted
+segments-most : tessellateOf (boxJob origin corner Cartesian 1024 [] 0) (of 24 36 16) .refusal ≡ Accepted
 unfolding computed
 segments-most = refl
 
-segments-above : tessellateOf (boxJob origin corner Cartesian 1025 [] 0) 24 36 16 .refusal ≡ TooManySegments
+segments-above : tessellateOf (boxJob origin corner Cartesian 1025 [] 0) (of 24 36 16) .refusal ≡ TooManySegments
 unfolding computed
 segments-above = refl
 
@@ -156,56 +161,56 @@ no-angle = refl
 huge : Float
 huge = ofBits binary64 0x7FE1_CCF3_85EB_C8A0
 
-soup-not-finite : tessellateOf (boxJob (new (neg huge) (float 0) (float 0)) (new huge (float 2) (float 3)) Cartesian 32 [] 0) 24 36 16 .refusal ≡ PointNotFinite
+soup-not-finite : tessellateOf (boxJob (new (neg huge) (float 0) (float 0)) (new huge (float 2) (float 3)) Cartesian 32 [] 0) (of 24 36 16) .refusal ≡ PointNotFinite
 unfolding computed huge
 soup-not-finite = refl
 
 -- 7: a 7-place vertex slice is short by one vertex, and a broken eighth place does not count; an 11-place triangle slice by one triangle
-vertices-short : tessellateOf box 23 36 14 .refusal ≡ NoRoom
+vertices-short : tessellateOf box (of 23 36 14) .refusal ≡ NoRoom
 unfolding computed
 vertices-short = refl
 
-triangles-short : tessellateOf box 24 35 16 .refusal ≡ NoRoom
+triangles-short : tessellateOf box (of 24 35 16) .refusal ≡ NoRoom
 unfolding computed
 triangles-short = refl
 
 -- 5: transformed vertices
-vertex-not-finite : tessellateOf (boxJob origin corner Cartesian 32 (Scale huge ∷ []) 1) 24 36 16 .refusal ≡ PointNotFinite
+vertex-not-finite : tessellateOf (boxJob origin corner Cartesian 32 (Scale huge ∷ []) 1) (of 24 36 16) .refusal ≡ PointNotFinite
 unfolding computed huge
 vertex-not-finite = refl
 
 -- an operation beyond the count is not read
-beyond-count : tessellateOf (boxJob origin corner Cartesian 32 (Scale huge ∷ []) 0) 24 36 16 .refusal ≡ Accepted
+beyond-count : tessellateOf (boxJob origin corner Cartesian 32 (Scale huge ∷ []) 0) (of 24 36 16) .refusal ≡ Accepted
 unfolding computed huge
 beyond-count = refl
 
 -- ---- the order of the checks: where two are due, the first one answers
 
-6-before-3 : tessellateOf (boxJob origin corner Cartesian 1025 [] 0) 24 36 15 .refusal ≡ ShortWork
+6-before-3 : tessellateOf (boxJob origin corner Cartesian 1025 [] 0) (of 24 36 15) .refusal ≡ ShortWork
 unfolding computed
 6-before-3 = refl
 
-3-before-4 : tessellateOf (boxJob origin corner Cartesian 1025 [] 17) 24 36 16 .refusal ≡ TooManySegments
+3-before-4 : tessellateOf (boxJob origin corner Cartesian 1025 [] 17) (of 24 36 16) .refusal ≡ TooManySegments
 unfolding computed
 3-before-4 = refl
 
-4-before-1 : tessellateOf (boxJob origin (new nan (float 2) (float 3)) Cartesian 32 [] 17) 24 36 16 .refusal ≡ BadList
+4-before-1 : tessellateOf (boxJob origin (new nan (float 2) (float 3)) Cartesian 32 [] 17) (of 24 36 16) .refusal ≡ BadList
 unfolding computed
 4-before-1 = refl
 
-1-before-2 : tessellateOf (boxJob origin (new nan above-1000 (float 3)) Cylindrical 3 [] 0) 24 36 16 .refusal ≡ NotFinite
+1-before-2 : tessellateOf (boxJob origin (new nan above-1000 (float 3)) Cylindrical 3 [] 0) (of 24 36 16) .refusal ≡ NotFinite
 unfolding computed above-1000
 1-before-2 = refl
 
-2-before-5 : tessellateOf (boxJob (new (neg huge) (float 0) (float 0)) (new huge above-1000 (float 3)) Cylindrical 3 [] 0) 24 36 16 .refusal ≡ AngleTooLarge
+2-before-5 : tessellateOf (boxJob (new (neg huge) (float 0) (float 0)) (new huge above-1000 (float 3)) Cylindrical 3 [] 0) (of 24 36 16) .refusal ≡ AngleTooLarge
 unfolding computed above-1000 huge
 2-before-5 = refl
 
-5-before-7 : tessellateOf (boxJob (new (neg huge) (float 0) (float 0)) (new huge (float 2) (float 3)) Cartesian 32 [] 0) 0 0 0 .refusal ≡ PointNotFinite
+5-before-7 : tessellateOf (boxJob (new (neg huge) (float 0) (float 0)) (new huge (float 2) (float 3)) Cartesian 32 [] 0) (of 0 0 0) .refusal ≡ PointNotFinite
 unfolding computed huge
 5-before-7 = refl
 
-7-before-5 : tessellateOf (boxJob origin corner Cartesian 32 (Scale huge ∷ []) 1) 23 36 16 .refusal ≡ NoRoom
+7-before-5 : tessellateOf (boxJob origin corner Cartesian 32 (Scale huge ∷ []) 1) (of 23 36 16) .refusal ≡ NoRoom
 unfolding computed huge
 7-before-5 = refl
 

@@ -8,32 +8,32 @@
 -- - `finalMesh` is the `mesh` that is returned: `mesh.transform(..)` unless the transform is empty.
 -- - `refusalOf` has the checks in the order of docs/SCOPE.md, "Refusals", one line each: 6; 3, 4, 1, 2 (crate shape, `drawingRefusal`); 5 over the whole soup; 7; 5 over the
 --   transformed vertices. The first one that is due is the answer; none is `Accepted`.
--- - `tessellateOf` is the outcome: the refusal, the two counts, and the whole final content of the vertex, the triangle and the work slice, of nv, nt and nw elements.
-use mathlib.Core.Bool.{Bool, not, _&&_, _||_, cond}
-use mathlib.Core.List.{List, _++_}
-use Prim.Native.Nat.{ℕ, _-_, _*_, _/_}
-use lib.ListN.{length, take, replicate}
-use lib.Dec.{ltb, eqb}
-use lib.Ieee.{Float, binary64, ofBits}
+-- - `tessellateOf` is the outcome: the refusal, the record, and the whole final content of the vertex, the triangle and the work slice, whose lengths are the `Lent` n
+--   (crate mesh_made, specs/Made.antt).
+use mathlib.Core.Bool.{Bool, not, _&&_, cond}
+use mathlib.Core.List.{List}
+use Prim.Native.Nat.{ℕ}
+use lib.ListN.{take}
+use lib.Dec.{ltb}
+use lib.Ieee.{Float}
 use Rattle.math.specs.Vec.{vFinite}
 use Rattle.transform.specs.declared.TransformOp.{TransformOp}
 use Rattle.transform.specs.Ops.{folded}
 use Rattle.refusal.specs.declared.Refusal.{Refusal}
 use Rattle.refusal.specs.declared.Refusal.the-variants.{Accepted, PointNotFinite, ShortWork, NoRoom}
-use Rattle.refusal.specs.Accepted.{isAccepted, orElse}
-use Rattle.mesh_balance_spec.specs.Buffer.{flat}
+use Rattle.refusal.specs.Accepted.{orElse}
 use Rattle.mesh_spec.specs.Mesh.{Mesh}
-use Rattle.mesh_spec.specs.Slices.{flatV}
+use Rattle.mesh_spec.specs.Parts.{Soup, partsFinite}
 use Rattle.mesh_spec.specs.Edits.{transform}
-use Rattle.solid_spec.specs.Grid.{Soup}
 use Rattle.shape.specs.declared.Shape.{Shape}
 use Rattle.shape.specs.declared.OwnSystem.{OwnSystem}
 use Rattle.shape.specs.declared.CoordSystem.{CoordSystem}
 use Rattle.shape.specs.declared.TessellationOptions.{TessellationOptions}
 use Rattle.shape.specs.Drawing.{cylindrical, shapeCs, drawingRefusal}
-use Rattle.mesh_check.specs.declared.TriMesh.{TriMesh}
-use Rattle.slice.specs.Every.{countedPlaces, every}
-use Rattle.tessellate_spec.specs.Solid.{partsOf, partsFinite, solidMesh}
+use Rattle.slice.specs.Every.{every}
+use Rattle.mesh_check.specs.State.{tooFewPlaces}
+use Rattle.mesh_made.specs.Made.{Lent, shortWork, Ending, madeAs}
+use Rattle.tessellate_spec.specs.Solid.{partsOf, solidMesh}
 
 -- the arguments of `tessellate`, but for the lent slices
 pub record Job : Type 0 where
@@ -46,6 +46,18 @@ pub record Job : Type 0 where
   pub ops : List TransformOp
   pub count : ℕ
 
+abbrev pub job : Shape → List Float → OwnSystem → CoordSystem → TessellationOptions → Bool → List TransformOp → ℕ → Job
+job shape list own default options degrees ops count = record {
+  shape = shape;
+  list = list;
+  own = own;
+  default = default;
+  options = options;
+  degrees = degrees;
+  ops = ops;
+  count = count;
+}
+
 -- ---- the mesh
 
 -- the parts, in the shape's system: the default one for a multi-box, else the effective one
@@ -56,15 +68,16 @@ jobParts j = partsOf (cylindrical (shapeCs (j .shape) (j .own) (j .default))) (j
 unfoldable pub weldedMesh : Job → Mesh
 weldedMesh j = solidMesh (j .shape) (jobParts j)
 
--- the mesh: no operations leave it untouched
+-- a mesh under the first operations: none leave it untouched
+unfoldable pub placed : Bool → List TransformOp → ℕ → Mesh → Mesh
+placed degrees ops count m = cond (ltb 0 count) (transform (folded degrees (take count ops)) m) m
+
+-- the mesh
 unfoldable pub finalMesh : Job → Mesh
-finalMesh j = cond (ltb 0 (j .count)) (transform (folded (j .degrees) (take (j .count) (j .ops))) (weldedMesh j)) (weldedMesh j)
+unfolding placed
+finalMesh j = placed (j .degrees) (j .ops) (j .count) (weldedMesh j)
 
 -- ---- the refusals
-
--- 6: the work slice is shorter than 2 × the whole vertex places lent
-unfoldable pub shortWork : ℕ → ℕ → Bool
-shortWork nv nw = ltb nw (2 * (nv / 3))
 
 -- 3, 4, 1 and 2
 unfoldable pub jobRefusal : Job → Refusal
@@ -74,56 +87,28 @@ jobRefusal j = drawingRefusal (j .shape) (j .list) (j .own) (j .default) (j .opt
 unfoldable pub badSoup : Job → Bool
 badSoup j = not (partsFinite (jobParts j))
 
--- 7: more vertices or triangles than whole places, or more than 4,294,967,295 of either
-unfoldable pub tooFewPlaces : Mesh → ℕ → ℕ → Bool
-tooFewPlaces m nv nt = ltb (countedPlaces nv) (length (m .vertices)) || ltb (countedPlaces nt) (length (m .triangles))
+-- 5: a coordinate of a vertex under the operations is not finite
+unfoldable pub badPlaced : Bool → List TransformOp → ℕ → Mesh → Bool
+unfolding placed
+badPlaced degrees ops count m = ltb 0 count && not (every vFinite (placed degrees ops count m .vertices))
 
--- 5: a coordinate of a transformed vertex is not finite
 unfoldable pub badVertex : Job → Bool
-badVertex j = ltb 0 (j .count) && not (every vFinite (finalMesh j .vertices))
+unfolding badPlaced
+badVertex j = badPlaced (j .degrees) (j .ops) (j .count) (weldedMesh j)
 
 -- the first refusal that is due: 6, then 3, 4, 1, 2, then 5, 7, 5
-unfoldable pub refusalOf : Job → ℕ → ℕ → ℕ → Refusal
-refusalOf j nv nt nw =
-    cond (shortWork nv nw) ShortWork
+unfoldable pub refusalOf : Job → Lent → Refusal
+refusalOf j n =
+    cond (shortWork (n .vertices) (n .work)) ShortWork
     (orElse (jobRefusal j)
     (cond (badSoup j) PointNotFinite
-    (cond (tooFewPlaces (weldedMesh j) nv nt) NoRoom
+    (cond (tooFewPlaces (weldedMesh j) (n .vertices) (n .triangles)) NoRoom
     (cond (badVertex j) PointNotFinite
     Accepted))))
 
 -- ---- the outcome
 
--- what is answered, and the final content of the three lent slices
-pub record Outcome : Type 0 where
-  pub refusal : Refusal
-  pub mesh : TriMesh
-  pub vertices : List Float
-  pub triangles : List ℕ
-  pub work : List ℕ
-
--- refused: counts 0, all three slices zero
-unfoldable pub refusedAs : Refusal → ℕ → ℕ → ℕ → Outcome
-refusedAs r nv nt nw = record {
-  refusal = r;
-  mesh = record { vertices = 0; triangles = 0 };
-  vertices = replicate nv (ofBits binary64 0);
-  triangles = replicate nt 0;
-  work = replicate nw 0;
-}
-
--- accepted: the mesh, zeros in the places after it, a broken last one included; the work slice zero
-unfoldable pub acceptedAs : Mesh → ℕ → ℕ → ℕ → Outcome
-acceptedAs m nv nt nw = record {
-  refusal = Accepted;
-  mesh = record { vertices = length (m .vertices); triangles = length (m .triangles) };
-  vertices = flatV (m .vertices) ++ replicate (nv - 3 * length (m .vertices)) (ofBits binary64 0);
-  triangles = flat (m .triangles) ++ replicate (nt - 3 * length (m .triangles)) 0;
-  work = replicate nw 0;
-}
-
--- `tessellate`, with slices of nv floats, nt and nw numbers
-unfoldable pub tessellateOf : Job → ℕ → ℕ → ℕ → Outcome
-tessellateOf j nv nt nw =
-    let r = refusalOf j nv nt nw in
-    cond (isAccepted r) (acceptedAs (finalMesh j) nv nt nw) (refusedAs r nv nt nw)
+-- `tessellate`, with slices of the lengths n
+unfoldable pub tessellateOf : Job → Lent → Ending
+unfolding madeAs
+tessellateOf j n = madeAs (refusalOf j n) (finalMesh j) n

@@ -1,60 +1,78 @@
--- The outcome at each exit of the call, in the order of the checks. Assumes nothing.
-use mathlib.Core.Path.{_≡_, refl, ap, _∙_}
-use mathlib.Core.Bool.{Bool, true, false, cond}
-use Prim.Native.Nat.{ℕ}
+-- The first refusal of a job, by what the checks say in their order. Assumes nothing.
+use mathlib.Core.Path.{_≡_, refl, sym, ap, _∙_}
+use mathlib.Core.Bool.{Bool, true, false, not, _||_, cond}
+use lib.ListN.{length, length-map}
+use lib.Dec.{ltb}
+use lib.Ieee.{binary64, lt, ofBits}
 use Rattle.refusal.specs.declared.Refusal.{Refusal}
 use Rattle.refusal.specs.declared.Refusal.the-variants.{Accepted, PointNotFinite, ShortWork, NoRoom}
 use Rattle.refusal.specs.Accepted.{isAccepted, orElse}
-use Rattle.tessellate_spec.specs.Outcome.{Job, weldedMesh, finalMesh, shortWork, jobRefusal, badSoup, tooFewPlaces, badVertex, refusalOf}
-use Rattle.tessellate_spec.specs.Outcome.{refusedAs, acceptedAs, tessellateOf}
+use Rattle.slice.specs.Every.{countedPlaces}
+use Rattle.mesh_balance_spec.specs.Soup.{flip as flipTri}
+use Rattle.mesh_spec.specs.Mesh.{Mesh, flip, fromParts}
+use Rattle.mesh_spec.specs.Measures.{signedVolume}
+use Rattle.mesh_spec.specs.Parts.{partsFinite}
+use Rattle.shape.specs.Rotated.{isRotPoly}
+use Rattle.mesh_check.specs.State.{tooFewPlaces}
+use Rattle.mesh_made.specs.Made.{Lent, shortWork}
+use Rattle.mesh_made.specs.Steps.{partsRefusal}
+use Rattle.tessellate_spec.specs.Solid.{outward, outwardIf, solidMesh}
+use Rattle.tessellate_spec.specs.Outcome.{Job, jobParts, weldedMesh, jobRefusal, badSoup, badVertex, refusalOf}
 
-module _ (j : Job) (nv nt nw : ℕ) where
-  -- the checks, from the soup's on
-  abbrev later : Bool → Bool → Bool → Refusal
-  later soup places vertex = cond soup PointNotFinite (cond places NoRoom (cond vertex PointNotFinite Accepted))
+-- ---- turning outward keeps the counts
+flips-or : (b : Bool) (m : Mesh) → (length (cond b (flip m) m .vertices) ≡ length (m .vertices)) × (length (cond b (flip m) m .triangles) ≡ length (m .triangles))
+unfolding flip
+flips-or true m = (refl, length-map (m .triangles) flipTri)
+flips-or false m = (refl, refl)
 
-  refused-by : (r : Refusal) → refusalOf j nv nt nw ≡ r → isAccepted r ≡ false → tessellateOf j nv nt nw ≡ refusedAs r nv nt nw
-  unfolding tessellateOf
-  refused-by r e n = rw (e, n)
+outward-counts : (b : Bool) (m : Mesh)
+    → (length (outwardIf b m .vertices) ≡ length (m .vertices)) × (length (outwardIf b m .triangles) ≡ length (m .triangles))
+unfolding outward
+outward-counts true m = flips-or (lt (signedVolume m) (ofBits binary64 0)) m
+outward-counts false m = (refl, refl)
 
-  -- the first refusal, by what each check says
-  abbrev first : Bool → Refusal → Bool → Bool → Bool → Refusal
-  first work drawing soup places vertex = cond work ShortWork (orElse drawing (later soup places vertex))
+module _ (j : Job) where
+  pub welded-is : weldedMesh j ≡ outwardIf (isRotPoly (j .shape)) (fromParts (jobParts j))
+  unfolding weldedMesh solidMesh
+  welded-is = refl
 
-  refusal-by : (work soup places vertex : Bool) (drawing : Refusal) → shortWork nv nw ≡ work → jobRefusal j ≡ drawing → badSoup j ≡ soup
-      → tooFewPlaces (weldedMesh j) nv nt ≡ places → badVertex j ≡ vertex → refusalOf j nv nt nw ≡ first work drawing soup places vertex
+  places-same : (n : Lent) → tooFewPlaces (weldedMesh j) (n .vertices) (n .triangles) ≡ tooFewPlaces (fromParts (jobParts j)) (n .vertices) (n .triangles)
+  unfolding tooFewPlaces
+  places-same n =
+      let c = outward-counts (isRotPoly (j .shape)) (fromParts (jobParts j)) in
+      (λ i. ltb (countedPlaces (n .vertices)) (length (welded-is i .vertices)) || ltb (countedPlaces (n .triangles)) (length (welded-is i .triangles)))
+      ∙ (λ i. ltb (countedPlaces (n .vertices)) (c .0 i) || ltb (countedPlaces (n .triangles)) (c .1 i))
+
+module _ (j : Job) (n : Lent) where
+  -- the checks from the soup's on
+  abbrev later : Bool → Bool → Refusal
+  later soup places = cond soup PointNotFinite (cond places NoRoom (cond (badVertex j) PointNotFinite Accepted))
+
+  by-tests : (work : Bool) (drawing : Refusal) → shortWork (n .vertices) (n .work) ≡ work → jobRefusal j ≡ drawing
+      → refusalOf j n ≡ cond work ShortWork (orElse drawing (later (badSoup j) (tooFewPlaces (weldedMesh j) (n .vertices) (n .triangles))))
   unfolding refusalOf
-  refusal-by work soup places vertex drawing a b c d e = λ i. first (a i) (b i) (c i) (d i) (e i)
+  by-tests work drawing a b = λ i. cond (a i) ShortWork (orElse (b i) (later (badSoup j) (tooFewPlaces (weldedMesh j) (n .vertices) (n .triangles))))
 
   -- 6
-  pub at-work : shortWork nv nw ≡ true → tessellateOf j nv nt nw ≡ refusedAs ShortWork nv nt nw
-  at-work a = refused-by ShortWork (refusal-by true _ _ _ _ a refl refl refl refl) refl
+  pub at-work : shortWork (n .vertices) (n .work) ≡ true → ShortWork ≡ refusalOf j n
+  at-work a = sym (by-tests true (jobRefusal j) a refl)
 
   -- 3, 4, 1 or 2
-  pub at-drawing : shortWork nv nw ≡ false → isAccepted (jobRefusal j) ≡ false → tessellateOf j nv nt nw ≡ refusedAs (jobRefusal j) nv nt nw
+  pub at-drawing : shortWork (n .vertices) (n .work) ≡ false → isAccepted (jobRefusal j) ≡ false → jobRefusal j ≡ refusalOf j n
   unfolding orElse
-  at-drawing a b = refused-by (jobRefusal j) (refusal-by false _ _ _ _ a refl refl refl refl ∙ rw b) b
+  at-drawing a b = sym (by-tests false (jobRefusal j) a refl ∙ rw b)
 
-  -- 5, over the soup
-  pub at-soup : shortWork nv nw ≡ false → jobRefusal j ≡ Accepted → badSoup j ≡ true → tessellateOf j nv nt nw ≡ refusedAs PointNotFinite nv nt nw
-  unfolding orElse
-  at-soup a b c = refused-by PointNotFinite (refusal-by false true _ _ Accepted a b c refl refl) refl
-
-  -- 7
-  pub at-places : shortWork nv nw ≡ false → jobRefusal j ≡ Accepted → badSoup j ≡ false → tooFewPlaces (weldedMesh j) nv nt ≡ true
-      → tessellateOf j nv nt nw ≡ refusedAs NoRoom nv nt nw
-  unfolding orElse
-  at-places a b c d = refused-by NoRoom (refusal-by false false true _ Accepted a b c d refl) refl
-
-  -- 5, over the transformed vertices
-  pub at-vertices : shortWork nv nw ≡ false → jobRefusal j ≡ Accepted → badSoup j ≡ false → tooFewPlaces (weldedMesh j) nv nt ≡ false → badVertex j ≡ true
-      → tessellateOf j nv nt nw ≡ refusedAs PointNotFinite nv nt nw
-  unfolding orElse
-  at-vertices a b c d e = refused-by PointNotFinite (refusal-by false false false true Accepted a b c d e) refl
-
-  -- no refusal
-  pub at-end : shortWork nv nw ≡ false → jobRefusal j ≡ Accepted → badSoup j ≡ false → tooFewPlaces (weldedMesh j) nv nt ≡ false → badVertex j ≡ false
-      → tessellateOf j nv nt nw ≡ acceptedAs (finalMesh j) nv nt nw
-  unfolding tessellateOf orElse
-  at-end a b c d e =
-      ap (λ (r : Refusal). cond (isAccepted r) (acceptedAs (finalMesh j) nv nt nw) (refusedAs r nv nt nw)) (refusal-by false false false false Accepted a b c d e)
+  -- after them: what is due of the parts, then 5 over the vertices under the operations
+  pub at-parts : shortWork (n .vertices) (n .work) ≡ false → jobRefusal j ≡ Accepted
+      → orElse (partsRefusal (jobParts j) n) (cond (badVertex j) PointNotFinite Accepted) ≡ refusalOf j n
+  unfolding orElse partsRefusal badSoup
+  at-parts a b =
+      sym
+      (by-tests false Accepted a b
+      ∙ (λ i. later (not (partsFinite (jobParts j))) (places-same j n i))
+      ∙ chosen (not (partsFinite (jobParts j))) (tooFewPlaces (fromParts (jobParts j)) (n .vertices) (n .triangles)) (cond (badVertex j) PointNotFinite Accepted))
+    where
+      chosen : (b c : Bool) (z : Refusal) → cond b PointNotFinite (cond c NoRoom z) ≡ orElse (cond b PointNotFinite (cond c NoRoom Accepted)) z
+      chosen true c z = unfold orElse in refl
+      chosen false true z = unfold orElse in refl
+      chosen false false z = unfold orElse in refl

@@ -1,13 +1,14 @@
 -- The match of `tessellate` in src/tessellate.rs: the parts of a shape, each of which is welded by itself, and the mesh that they make. Definitions only.
-use mathlib.Core.Bool.{Bool, true, cond, _&&_}
+use mathlib.Core.Bool.{Bool, cond}
 use mathlib.Core.List.{List, [], _∷_}
 use lib.Ieee.{Float, binary64, lt, ofBits}
 use Rattle.shape.specs.declared.Shape.{Shape}
 use Rattle.shape.specs.declared.Shape.the-variants.{Box, MultiBox, Sphere, SphericalShell, Cylinder, CylindricalShell, Polygon, LinPoly, RotPoly, Wire}
 use Rattle.shape.specs.declared.TessellationOptions.{TessellationOptions}
-use Rattle.mesh_spec.specs.Mesh.{Mesh, flip, everyFinite, fromParts}
+use Rattle.shape.specs.Rotated.{isRotPoly}
+use Rattle.mesh_spec.specs.Mesh.{Mesh, flip, fromParts}
+use Rattle.mesh_spec.specs.Parts.{Soup}
 use Rattle.mesh_spec.specs.Measures.{signedVolume}
-use Rattle.solid_spec.specs.Grid.{Soup}
 use Rattle.solid_spec.specs.Boxes.{boxSoup, multiBoxParts}
 use Rattle.solid_spec.specs.Sphere.{sphereSoup, sphericalShellSoup}
 use Rattle.solid_spec.specs.Cylinder.{cylinderSoup, cylindricalShellSoup}
@@ -27,24 +28,15 @@ partsOf cylindrical (LinPoly normal elevation length) v o = linPolySoup normal v
 partsOf cylindrical (RotPoly normal elevation axis start stop) v o = rotPolySoup normal axis v start stop (o .segments) ∷ []
 partsOf cylindrical (Wire radius) v o = wireParts cylindrical v radius (o .segments) (o .«sphere_rings»)
 
--- `Vec3::is_finite` of every point of every part
-unfoldable pub partsFinite : List Soup → Bool
-partsFinite [] = true
-partsFinite (s ∷ ss) = everyFinite s && partsFinite ss
-
 -- the end of the case RotPoly: `if m.signed_volume() < 0.0 { m.flip(); }`; a NaN does not flip
 unfoldable pub outward : Mesh → Mesh
 outward m = cond (lt (signedVolume m) (ofBits binary64 0)) (flip m) m
 
+-- the same where the shape is a rotated outline; other meshes stay
+abbrev pub outwardIf : Bool → Mesh → Mesh
+outwardIf rotated m = cond rotated (outward m) m
+
 -- the mesh of a shape from its parts, before the transform
 unfoldable pub solidMesh : Shape → List Soup → Mesh
-solidMesh (Box start stop) parts = fromParts parts
-solidMesh MultiBox parts = fromParts parts
-solidMesh (Sphere center radius) parts = fromParts parts
-solidMesh (SphericalShell center radius width) parts = fromParts parts
-solidMesh (Cylinder start stop radius) parts = fromParts parts
-solidMesh (CylindricalShell start stop radius width) parts = fromParts parts
-solidMesh (Polygon normal elevation) parts = fromParts parts
-solidMesh (LinPoly normal elevation length) parts = fromParts parts
-solidMesh (RotPoly normal elevation axis start stop) parts = outward (fromParts parts)
-solidMesh (Wire radius) parts = fromParts parts
+unfolding isRotPoly
+solidMesh shape parts = outwardIf (isRotPoly shape) (fromParts parts)

@@ -1,27 +1,32 @@
--- The end of `draw`: refusals 5 and 7, and the mesh, from what the welder tells. Assumes nothing.
+-- What a drawing makes: the parts welded and refused, or turned outward and placed. Assumes nothing.
 use mathlib.Core.Path.{_≡_, refl, sym, ap, _∙_, subst}
-use mathlib.Core.Bool.{Bool, true, false, not}
+use mathlib.Core.Bool.{Bool, true, false, cond}
 use mathlib.Core.List.{List}
 use Prim.Native.Nat.{ℕ}
 use lib.ListN.{length}
 use lib.Ieee.{Float}
-use borrow.Author.Tests.{not-true, not-false}
-use Rattle.refusal.specs.declared.Refusal.the-variants.{Accepted, PointNotFinite, NoRoom}
+use Rattle.refusal.specs.declared.Refusal.{Refusal}
+use Rattle.refusal.specs.declared.Refusal.the-variants.{Accepted, PointNotFinite}
+use Rattle.refusal.specs.Accepted.{isAccepted, orElse}
+use Rattle.refusal.specs.Laws.{accepted-is}
 use Rattle.mesh_spec.specs.Mesh.{Mesh, fromParts}
-use Rattle.solid_spec.specs.Grid.{Soup}
-use Rattle.weld.specs.declared.Welder.{Welder}
+use Rattle.mesh_spec.specs.Parts.{fromParts-there}
 use Rattle.shape.specs.declared.CoordSystem.{CoordSystem}
 use Rattle.shape.specs.Drawing.{cylindrical, shapeCs}
 use Rattle.shape.specs.DrawingLaws.{accepted}
-use Rattle.mesh_check.specs.State.{state, meshOf, stored}
-use Rattle.tessellate_spec.specs.Solid.{partsOf}
-use Rattle.tessellate_spec.specs.Outcome.{Job, Outcome, jobParts, weldedMesh, jobRefusal, badSoup, tooFewPlaces, refusedAs, tessellateOf}
+use Rattle.mesh_check.specs.State.{state, meshOf}
 use Rattle.shape.specs.Rotated.{isRotPoly}
-use Rattle.tessellate_place.specs.Ends.{turned, placedAs, Whole}
-use Rattle.tessellate_weld.specs.Steps.{countsOf, Drawable, Welded, Drawn}
-use Rattle.mesh_made.proofs.Ending.{refused-lengths}
-use Rattle.tessellate_place.proofs.Lying.{mesh-is, stored-whole, fromParts-there}
-use Rattle.tessellate_weld.proofs.Choices.{soup, full, placed, welded-is, places-same, soup-test}
+use Rattle.mesh_check.specs.Places.{Whole}
+use Rattle.mesh_check.proofs.Lying.{mesh-is, stored-whole}
+use Rattle.mesh_made.specs.declared.Made.{Made}
+use Rattle.mesh_made.specs.Made.{Lent}
+use Rattle.mesh_made.specs.Steps.{Makes, partsRefusal}
+use Rattle.mesh_made.proofs.Ending.{makes-as, makes-none}
+use Rattle.tessellate_spec.specs.Solid.{partsOf, outwardIf}
+use Rattle.tessellate_spec.specs.Outcome.{Job, jobParts, weldedMesh, placed, finalMesh, jobRefusal, badPlaced, badVertex, refusalOf}
+use Rattle.tessellate_spec.specs.OutcomeLaws.{welded-is, at-parts}
+use Rattle.tessellate_place.specs.Ends.{placedRefusal}
+use Rattle.tessellate_weld.specs.Steps.{Drawable, Drawn}
 
 -- refusals 3 and 4 do not apply
 pub drawable : (j : Job) → jobRefusal j ≡ Accepted → Drawable (j .shape) (j .list) (j .options)
@@ -30,43 +35,45 @@ drawable j e =
     let a = accepted (j .shape) (j .list) (j .own) (j .default) (j .options) (j .ops) (j .count) (j .degrees) e in
     record { segments = a .segments-most; rings = a .rings-most; items = a .list-whole }
 
--- the parts were welded in the shape's system
-pub welded-parts : (j : Job) (cs : CoordSystem) (cyl : Bool) (w : Welder) (vs : List Float) (ts : List ℕ) → cs ≡ shapeCs (j .shape) (j .own) (j .default) → cyl ≡ cylindrical cs
-    → Welded (partsOf cyl (j .shape) (j .list) (j .options)) w vs ts → Welded (jobParts j) w vs ts
-unfolding jobParts
-welded-parts j cs cyl w vs ts e f W = subst (λ (b : Bool). Welded (partsOf b (j .shape) (j .list) (j .options)) w vs ts) (f ∙ ap {B = Bool} cylindrical e) W
+module _ (j : Job) (n : Lent) (made : Made) (vs : List Float) (ts : List ℕ) where
+  -- the parts were welded in the shape's system
+  pub in-system : (cs : CoordSystem) (c : Bool) → cs ≡ shapeCs (j .shape) (j .own) (j .default) → c ≡ cylindrical cs
+      → Makes (partsRefusal (partsOf c (j .shape) (j .list) (j .options)) n) (fromParts (partsOf c (j .shape) (j .list) (j .options))) made vs ts
+      → Makes (partsRefusal (jobParts j) n) (fromParts (jobParts j)) made vs ts
+  unfolding jobParts
+  in-system cs c e f M =
+      subst (λ (b : Bool). Makes (partsRefusal (partsOf b (j .shape) (j .list) (j .options)) n) (fromParts (partsOf b (j .shape) (j .list) (j .options))) made vs ts)
+      (f ∙ ap {B = Bool} cylindrical e) M
 
-module _ (j : Job) (us vs : List Float) (ss ts xs ws : List ℕ) (D : Drawn j (length us) (length xs)) (w : Welder) (W : Welded (jobParts j) w vs ts)
-    (lv : length vs ≡ length us) (lt : length ts ≡ length ss) (lw : length ws ≡ length xs) where
-  pub not-finite : not (w .finite) ≡ true → refusedAs PointNotFinite (length vs) (length ts) (length ws) ≡ tessellateOf j (length us) (length ss) (length xs)
-  not-finite e =
-      refused-lengths PointNotFinite vs us ts ss ws xs lv lt lw
-      ∙ soup j (length us) (length ss) (length xs) D (soup-test j (w .finite) true (W .finite) e)
+  module _ (D : Drawn j (n .vertices) (n .work)) (M : Makes (partsRefusal (jobParts j) n) (fromParts (jobParts j)) made vs ts) where
+    -- refused: 5 or 7
+    pub parts-refused : isAccepted (made .refusal) ≡ false → Makes (refusalOf j n) (finalMesh j) made vs ts
+    unfolding orElse
+    parts-refused a =
+        let q : isAccepted (partsRefusal (jobParts j) n) ≡ false = ap {B = Bool} isAccepted (sym (M .refusal)) ∙ a in
+        makes-as
+        (sym (ap {B = Refusal} (λ (b : Bool). cond b (cond (badVertex j) PointNotFinite Accepted) (partsRefusal (jobParts j) n)) q) ∙ at-parts j n (D .work) (D .drawing)) refl
+        (makes-none (finalMesh j) q M)
 
-  -- the places, as the welder tells
-  counted : (b : Bool) → tooFewPlaces (fromParts (jobParts j)) (length vs) (length ts) ≡ b → tooFewPlaces (weldedMesh j) (length us) (length ss) ≡ b
-  counted b e = places-same j (length us) (length ss) ∙ sym (λ i. tooFewPlaces (fromParts (jobParts j)) (lv i) (lt i)) ∙ e
+    module _ (a : isAccepted (made .refusal) ≡ true) where
+      none-due : isAccepted (partsRefusal (jobParts j) n) ≡ true
+      none-due = ap {B = Bool} isAccepted (sym (M .refusal)) ∙ a
 
-  module _ (fine : not (w .finite) ≡ false) where
-    pub no-room : not (w .room) ≡ true → refusedAs NoRoom (length vs) (length ts) (length ws) ≡ tessellateOf j (length us) (length ss) (length xs)
-    no-room e =
-        refused-lengths NoRoom vs us ts ss ws xs lv lt lw
-        ∙ full j (length us) (length ss) (length xs) D (soup-test j (w .finite) false (W .finite) fine)
-        (counted true (W .over (not-false (w .finite) fine) (not-true (w .room) e)))
+      pub whole : Whole (state (made .mesh) vs ts)
+      whole = stored-whole (fromParts (jobParts j)) (state (made .mesh) vs ts) (state (made .mesh) vs ts) (M .holds none-due) (fromParts-there (jobParts j))
 
-    module _ (roomy : not (w .room) ≡ false) where
-      held : state (countsOf w) vs ts ≡ stored (fromParts (jobParts j)) (state (countsOf w) vs ts)
-      held = W .holds (not-false (w .finite) fine) (not-false (w .room) roomy)
-
-      pub whole : Whole (state (countsOf w) vs ts)
-      whole = stored-whole (fromParts (jobParts j)) (state (countsOf w) vs ts) (state (countsOf w) vs ts) held (fromParts-there (jobParts j))
-
-      pub done : (rotated : Bool) → rotated ≡ isRotPoly (j .shape)
-          → placedAs (j .ops) (j .count) (j .degrees) (turned rotated (meshOf (state (countsOf w) vs ts))) (length vs) (length ts) (length ws)
-          ≡ tessellateOf j (length us) (length ss) (length xs)
-      done rotated e =
-          let m : meshOf (state (countsOf w) vs ts) ≡ fromParts (jobParts j) = mesh-is (fromParts (jobParts j)) (state (countsOf w) vs ts) (state (countsOf w) vs ts) held in
-          (λ i. placedAs (j .ops) (j .count) (j .degrees) (turned (e i) (m i)) (lv i) (lt i) (lw i))
-          ∙ sym (λ i. placedAs (j .ops) (j .count) (j .degrees) (welded-is j i) (length us) (length ss) (length xs))
-          ∙ placed j (length us) (length ss) (length xs) D (soup-test j (w .finite) false (W .finite) fine)
-          (counted false (W .fits (not-false (w .finite) fine) (not-false (w .room) roomy)))
+      -- turned outward, and under the operations
+      pub completed : (rotated : Bool) → rotated ≡ isRotPoly (j .shape) → (r : Made) (us : List Float) (ss : List ℕ)
+          → Makes (placedRefusal (j .degrees) (j .ops) (j .count) (outwardIf rotated (meshOf (state (made .mesh) vs ts))))
+          (placed (j .degrees) (j .ops) (j .count) (outwardIf rotated (meshOf (state (made .mesh) vs ts)))) r us ss
+          → Makes (refusalOf j n) (finalMesh j) r us ss
+      unfolding orElse badVertex finalMesh
+      completed rotated e r us ss K =
+          let s = state (made .mesh) vs ts in
+          let w : outwardIf rotated (meshOf s) ≡ weldedMesh j =
+          (λ i. outwardIf (e i) (mesh-is (fromParts (jobParts j)) s s (M .holds none-due) i)) ∙ sym (welded-is j) in
+          makes-as
+          (ap {B = Refusal} (λ (m : Mesh). placedRefusal (j .degrees) (j .ops) (j .count) m) w
+          ∙ sym (ap {B = Refusal} (λ (b : Bool). cond b (cond (badVertex j) PointNotFinite Accepted) (partsRefusal (jobParts j) n)) none-due)
+          ∙ at-parts j n (D .work) (D .drawing))
+          (ap {B = Mesh} (placed (j .degrees) (j .ops) (j .count)) w) K

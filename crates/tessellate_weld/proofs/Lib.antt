@@ -1,4 +1,3 @@
 -- Laws that the proofs of `tessellate_weld` use.
-pub mod Choices
-pub mod Drawing
 pub mod Welding
+pub mod Drawing

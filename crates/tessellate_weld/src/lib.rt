@@ -1,20 +1,19 @@
-// The drawing of a solid: its parts welded, then refusals 5 and 7, then the end of the call.
+// The drawing of a solid: its parts welded, then refusals 5 and 7, then the mesh to its end.
 ghost use mathlib.Core.Path.{_≡_};
 ghost use mathlib.Core.Bool.{false};
 ghost use lib.ListN.{length};
+ghost use Rattle.mesh_spec.specs.Mesh.{fromParts};
+ghost use Rattle.mesh_made.specs.Made.{lent, shortWork};
+ghost use Rattle.mesh_made.specs.Steps.{Makes, partsRefusal};
 ghost use Rattle.tessellate_spec.specs.Solid.{partsOf};
-ghost use Rattle.tessellate_spec.specs.Outcome.{tessellateOf, shortWork};
-ghost use Rattle.tessellate_spec.specs.Gives.{Gives, job};
-ghost use Rattle.tessellate_weld.specs.Steps.{Drawable, Welded, Drawn};
-use mesh::TriMesh;
-use refusal::Refusal;
+ghost use Rattle.tessellate_spec.specs.Outcome.{job, finalMesh, refusalOf};
+ghost use Rattle.tessellate_weld.specs.Steps.{Drawable, Drawn};
+use mesh_made::Made;
 use shape::CoordSystem;
 use shape::OwnSystem;
 use shape::Shape;
 use shape::TessellationOptions;
-use tessellate_spec::Tessellated;
 use transform::TransformOp;
-use weld::Welder;
 
 // Welds the parts of the shape into the slices, from an empty mesh.
 fn weld_all(
@@ -25,25 +24,28 @@ fn weld_all(
     list: &[f64],
     cylindrical: bool,
     options: TessellationOptions,
-) -> Welder
+) -> Made
     requires { ⌜ Drawable shape (now list) options × (shortWork (length (now vertices)) (length (now work)) ≡ false) ⌝ }
-    ensures { λ w. ⌜ Welded (partsOf cylindrical shape (now (list .entry)) options) w (now (vertices .exit)) (now (triangles .exit)) ⌝ }
+    ensures { λ r. ⌜ Makes
+        (partsRefusal (partsOf cylindrical shape (now (list .entry)) options) (lent (now (vertices .entry)) (now (triangles .entry)) (now (work .entry))))
+        (fromParts (partsOf cylindrical shape (now (list .entry)) options))
+        r (now (vertices .exit)) (now (triangles .exit)) ⌝ }
 {
-    slice::clear_numbers(work, 0);
-    let w = weld::begin(vertices, work);
-    solid::weld_shape(
+    let b = weld::begin(vertices, work);
+    let w = solid::weld_shape(
         vertices,
         triangles,
         work,
-        w,
+        b,
         shape,
         list,
         cylindrical,
         options,
-    )
+    );
+    mesh_made::judge(w)
 }
 
-// The parts welded, then refusals 5 and 7, then the mesh to its end.
+// The parts welded, and the mesh turned outward and under the operations, unless it is refused.
 pub fn draw(
     shape: Shape,
     list: &[f64],
@@ -56,36 +58,20 @@ pub fn draw(
     vertices: &mut [f64],
     triangles: &mut [u32],
     work: &mut [u32],
-) -> Tessellated
+) -> Made
     requires { ⌜ Drawn (job shape (now list) own default options degrees ops «op_count») (length (now vertices)) (length (now work)) ⌝ }
-    ensures { λ r. ⌜ Gives
-        (tessellateOf (job shape (now (list .entry)) own default options degrees ops «op_count»)
-        (length (now (vertices .entry))) (length (now (triangles .entry))) (length (now (work .entry))))
-        r (now (vertices .exit)) (now (triangles .exit)) (now (work .exit)) ⌝ }
+    ensures { λ r. ⌜ Makes
+        (refusalOf (job shape (now (list .entry)) own default options degrees ops «op_count») (lent (now (vertices .entry)) (now (triangles .entry)) (now (work .entry))))
+        (finalMesh (job shape (now (list .entry)) own default options degrees ops «op_count»))
+        r (now (vertices .exit)) (now (triangles .exit)) ⌝ }
 {
     let cylindrical = shape::is_cylindrical(shape::shape_cs(shape, own, default));
     let rotated = shape::is_rot_poly(shape);
-    let w = weld_all(vertices, triangles, work, shape, list, cylindrical, options);
-    let finite = w.finite;
-    let room = w.room;
-    if !finite {
-        return mesh_made::refuse(Refusal::PointNotFinite, vertices, triangles, work);
+    let made = weld_all(vertices, triangles, work, shape, list, cylindrical, options);
+    let refusal = made.refusal;
+    let counts = made.mesh;
+    if !refusal::is_accepted(refusal) {
+        return made;
     }
-    if !room {
-        return mesh_made::refuse(Refusal::NoRoom, vertices, triangles, work);
-    }
-    let counts = TriMesh {
-        vertices: w.count,
-        triangles: w.faces,
-    };
-    tessellate_place::complete(
-        rotated,
-        counts,
-        vertices,
-        triangles,
-        work,
-        ops,
-        op_count,
-        degrees,
-    )
+    tessellate_place::complete(rotated, counts, vertices, triangles, ops, op_count, degrees)
 }

@@ -4,8 +4,8 @@ use mathlib.Core.Bool.{true, false, _&&_, cond}
 use mathlib.Core.List.{List}
 use mathlib.Core.Logic.{_⊎_}
 use Prim.Native.Nat.{ℕ, _-_, _*_, _≤_, _<_}
-use lib.ListN.{length, take}
-use lib.Ieee.{Float}
+use lib.ListN.{length, take, replicate}
+use lib.Ieee.{Float, binary64, ofBits}
 use Rattle.math.specs.declared.Vec3.{Vec3}
 use Rattle.mesh_balance_spec.specs.Soup.{Tri}
 use Rattle.mesh_balance_spec.specs.Buffer.{flat}
@@ -13,9 +13,9 @@ use Rattle.mesh_spec.specs.Mesh.{Mesh, noMesh, append, weldSoup, everyFinite}
 use Rattle.mesh_spec.specs.Slices.{flatV, vertexAt}
 use Rattle.weld.specs.declared.Welder.{Welder}
 use Rattle.slice.specs.Every.{placesOf}
-use Rattle.weld_hash.specs.Hash.{Stored, Chained}
+use Rattle.weld_hash.specs.Hash.{Distinct, Chained}
 use Rattle.weld_order.specs.declared.Row.{Row}
-use Rattle.weld_order.specs.Rows.{within}
+use Rattle.weld_order.specs.Rows.{among}
 
 -- the state and the three lent slices
 pub record Held : Type 0 where
@@ -33,12 +33,12 @@ rowOf w = record { near = w .near; rising = w .rising }
 
 -- with p after them as the last one, the vertices from base below count and p itself came row by row, the last row being r
 pub record InRow (base count : ℕ) (vs : List Float) (p : Vec3) (r : Row) : Type 0 where
-  pub has : within r p p ≡ true
-  pub keeps : (m : ℕ) → base ≤ m → m < count → within r p (vertexAt vs m) ≡ true
+  pub has : among r p p ≡ true
+  pub keeps : (m : ℕ) → base ≤ m → m < count → among r p (vertexAt vs m) ≡ true
 
 -- where `ordered` says so, the vertices of this part came row by row
 abbrev pub InRows : Welder → List Float → Type 0
-InRows w vs = w .ordered ≡ true → (m : ℕ) → w .base ≤ m → m < w .count → within (rowOf w) (vertexAt vs (w .count - 1)) (vertexAt vs m) ≡ true
+InRows w vs = w .ordered ≡ true → (m : ℕ) → w .base ≤ m → m < w .count → among (rowOf w) (vertexAt vs (w .count - 1)) (vertexAt vs m) ≡ true
 
 -- so many vertices are in the chains: while they come row by row, those of this part are not
 abbrev pub indexed : Welder → ℕ
@@ -46,7 +46,7 @@ indexed w = cond (w .ordered) (w .base) (w .count)
 
 -- the vertices and the chains stand, and `places` counts the places for vertices
 pub record Linked (w : Welder) (vs : List Float) (ws : List ℕ) : Type 0 where
-  pub stored : Stored vs (w .places) (w .base) (w .count)
+  pub distinct : Distinct vs (w .places) (w .base) (w .count)
   pub chained : Chained vs ws (w .places) (w .base) (indexed w)
   pub places : w .places ≡ placesOf vs
   pub rows : InRows w vs
@@ -82,15 +82,36 @@ pub record Runs (soup : List (Tri Vec3)) (h k : Held) : Type 0 where
   pub finite : k .st .finite ≡ (h .st .finite && everyFinite soup)
   pub rep : k .st .finite ≡ true → (D S : Mesh) → Rep D S h → Rep D (weldSoup S soup) k
 
--- a state in which nothing is welded yet
+-- the state in which nothing is welded yet
+abbrev pub beginning : ℕ → Welder
+beginning places = record { base = 0; count = 0; places = places; faces = 0; near = ofBits binary64 0; finite = true; room = true; ordered = false; rising = false }
+
+-- nothing is welded yet, and no vertex is in a chain
 pub record Begun (r : Welder) (vs : List Float) (ws : List ℕ) : Type 0 where
+  pub answer : r ≡ beginning (placesOf vs)
+  pub work : ws ≡ replicate (length ws) 0
   pub ready : (ts : List ℕ) → Ready (held r vs ts ws)
   pub finite : r .finite ≡ true
   pub room : r .room ≡ true
   pub rep : (ts : List ℕ) → Rep noMesh noMesh (held r vs ts ws)
 
+-- the state in which a new part begins
+abbrev pub nextPart : Welder → Welder
+nextPart w = record {
+  base = w .count;
+  count = w .count;
+  places = w .places;
+  faces = w .faces;
+  near = ofBits binary64 0;
+  finite = w .finite;
+  room = w .room;
+  ordered = false;
+  rising = false;
+}
+
 -- the part so far is appended to those before it, and a new part begins
 pub record Parted (w r : Welder) : Type 0 where
+  pub answer : r ≡ nextPart w
   pub ready : (vs : List Float) (ts ws : List ℕ) → Ready (held w vs ts ws) → Ready (held r vs ts ws)
   pub finite : r .finite ≡ w .finite
   pub room : r .room ≡ w .room

@@ -1,4 +1,4 @@
--- The laws of `Runs`, for callers that weld a soup piece by piece, and what a caller knows at the end. Assumes nothing.
+-- The laws of `Runs`, for callers that weld a soup piece by piece, and when the mesh fits. Assumes nothing.
 use mathlib.Core.Path.{_≡_, refl, sym, ap, _∙_, subst}
 use mathlib.Core.Bool.{Bool, true, false, _&&_, true≢false}
 use mathlib.Core.List.{List, [], _∷_, _++_}
@@ -11,10 +11,9 @@ use Rattle.slice_law.specs.Bools.{and-true, and-left, and-assoc, true-unless}
 use Rattle.math.specs.declared.Vec3.{Vec3}
 use Rattle.mesh_balance_spec.specs.Soup.{Tri}
 use Rattle.mesh_spec.specs.Mesh.{Mesh, noMesh, append, weldSoup, fromSoup, everyFinite}
-use Rattle.mesh_spec.specs.WeldLaws.{weldSoup-append, everyFinite-append, none-append}
-use Rattle.weld.specs.declared.Welder.{Welder}
-use Rattle.slice.specs.Every.{placesOf}
-use Rattle.weld.specs.Rep.{Held, held, Ready, Holds, Over, Rep, Runs, Begun}
+use Rattle.mesh_spec.specs.WeldLaws.{weldSoup-append, everyFinite-append}
+use Rattle.weld.specs.Rep.{Held, Ready, Holds, Over, Rep, Runs}
+use Rattle.weld.specs.Parts.{Fits}
 
 -- the empty soup
 pub runs-none : (h : Held) → Ready h → Runs [] h h
@@ -64,13 +63,9 @@ pub runs-part : (soup : List (Tri Vec3)) (h k : Held) (D : Mesh) → Runs soup h
 unfolding fromSoup
 runs-part soup h k D R e Q = R .rep e D noMesh Q
 
--- the mesh fits the slices: docs/SCOPE.md, refusal 7 does not apply
-abbrev pub Fits : Mesh → Held → Type 0
-Fits M h = (length (M .vertices) ≤ placesOf (h .vertices)) × (length (M .triangles) ≤ placesOf (h .triangles))
-
 -- `room` is exact: a mesh that the slices hold fits them, and one that is over does not
 pub holds-fits : (M : Mesh) (h : Held) → Ready h → Holds M h → Fits M h
-holds-fits M h R H = (omega (arith, H .count, R .linked .stored .within, R .linked .places), omega (arith, H .faces, R .faces))
+holds-fits M h R H = (omega (arith, H .count, R .linked .distinct .fits, R .linked .places), omega (arith, H .faces, R .faces))
 
 pub over-not-fits : (M : Mesh) (h : Held) → Over M h → Fits M h → ⊥
 over-not-fits M h (inl w) f = omega (arith, f .0)
@@ -79,19 +74,3 @@ over-not-fits M h (inr w) f = omega (arith, f .1)
 -- there is room exactly where the mesh fits
 pub room-exact : (D S : Mesh) (h : Held) → Ready h → Rep D S h → (h .st .room ≡ true) ↔ Fits (append D S) h
 room-exact D S h R Q = ((λ e. holds-fits (append D S) h R (Q .holds e)), (λ f. true-unless (h .st .room) (λ e. over-not-fits (append D S) h (Q .over e) f)))
-
--- a whole soup, from the beginning: the answer to refusal 5, and to refusal 7, and the mesh
-pub record Ended (M : Mesh) (soup : List (Tri Vec3)) (k : Held) : Type 0 where
-  pub finite : k .st .finite ≡ everyFinite soup
-  pub holds : everyFinite soup ≡ true → k .st .room ≡ true → Holds M k
-  pub over : everyFinite soup ≡ true → k .st .room ≡ false → Over M k
-
-pub ended : (r : Welder) (vs : List Float) (ts ws : List ℕ) (soup : List (Tri Vec3)) (k : Held) → Begun r vs ws → Runs soup (held r vs ts ws) k → Ended (fromSoup soup) soup k
-unfolding fromSoup
-ended r vs ts ws soup k B R =
-    let f : k .st .finite ≡ everyFinite soup = R .finite ∙ ap (λ (b : Bool). b && everyFinite soup) (B .finite) in
-    record {
-      finite = f;
-      holds = λ e q. subst (λ (M : Mesh). Holds M k) (none-append (weldSoup noMesh soup)) (R .rep (f ∙ e) noMesh noMesh (B .rep ts) .holds q);
-      over = λ e q. subst (λ (M : Mesh). Over M k) (none-append (weldSoup noMesh soup)) (R .rep (f ∙ e) noMesh noMesh (B .rep ts) .over q);
-    }

@@ -1,11 +1,11 @@
 // Whether a point is new, as far as the rows of vertices show it: see `weld_order`.
 ghost use mathlib.Core.Path.{_≡_};
-ghost use mathlib.Core.Bool.{true, false};
+ghost use mathlib.Core.Bool.{true};
 ghost use Prim.Native.Nat.{_<_};
 ghost use Rattle.weld_vertex.specs.Points.{Clean};
-ghost use Rattle.weld_hash.specs.Hash.{Stored};
+ghost use Rattle.weld_hash.specs.Hash.{Distinct};
 ghost use Rattle.weld.specs.Rep.{InRows};
-ghost use Rattle.weld.specs.States.{freshIn, Foresees};
+ghost use Rattle.weld.specs.States.{freshIn, unforeseen, Foresees};
 use crate::Foreseen;
 use crate::Welder;
 use math::Vec3;
@@ -24,7 +24,7 @@ fn fresh(row: Row) -> Foreseen
 
 // A point that has to be searched for.
 pub fn unknown() -> Foreseen
-    ensures { λ r. ⌜ r .fresh ≡ false ⌝ }
+    ensures { λ r. ⌜ r ≡ unforeseen ⌝ }
 {
     Foreseen {
         near: 0.0,
@@ -35,7 +35,7 @@ pub fn unknown() -> Foreseen
 
 // The first point of a part is new, and so is one that continues the rows.
 pub fn foresee(vertices: &[f64], w: Welder, p: Vec3) -> Foreseen
-    requires { ⌜ Stored (now vertices) (w .places) (w .base) (w .count) × InRows w (now vertices) × Clean p ⌝ }
+    requires { ⌜ Distinct (now vertices) (w .places) (w .base) (w .count) × InRows w (now vertices) × Clean p ⌝ }
     ensures { λ r. ⌜ Foresees w (now (vertices .entry)) p r ⌝ }
 {
     if w.base == w.count {
@@ -50,15 +50,15 @@ pub fn foresee(vertices: &[f64], w: Welder, p: Vec3) -> Foreseen
 
 // The same where there are vertices, and they came row by row.
 fn from_last(vertices: &[f64], w: Welder, p: Vec3) -> Foreseen
-    requires { ⌜ Stored (now vertices) (w .places) (w .base) (w .count) × InRows w (now vertices) × Clean p × (w .base < w .count) × (w .ordered ≡ true) ⌝ }
+    requires { ⌜ Distinct (now vertices) (w .places) (w .base) (w .count) × InRows w (now vertices) × Clean p × (w .base < w .count) × (w .ordered ≡ true) ⌝ }
     ensures { λ r. ⌜ Foresees w (now (vertices .entry)) p r ⌝ }
 {
     let row = Row {
         near: w.near,
         rising: w.rising,
     };
-    let last = weld_vertex::vertex(vertices, w.count - 1);
-    if weld_order::is_within(row, last, p) {
+    let last = mesh_triples::vertex(vertices, w.count - 1);
+    if weld_order::is_among(row, last, p) {
         return unknown();
     }
     fresh(weld_order::next_row(row, last, p))

@@ -1,8 +1,7 @@
 // The state in which from_soup of src/tessellate.rs runs, one triangle at a time: the soup is not stored. A mesh lies in lent
 // slices, three floats a vertex and three numbers a triangle; the work slice holds the hash chains of `weld_hash`.
-ghost use mathlib.Core.Path.{_≡_};
-ghost use Prim.Native.Nat.{ℕ, _*_, _/_, _≤_};
-ghost use lib.ListN.{length, getD};
+ghost use Prim.Native.Nat.{_*_, _/_, _≤_};
+ghost use lib.ListN.{length};
 ghost use Rattle.weld.specs.Rep.{Begun, Parted};
 
 mod foresight;
@@ -42,11 +41,12 @@ pub struct Foreseen {
     pub rising: bool,
 }
 
-// Nothing is welded yet. The work slice is all zero.
-pub fn begin(vertices: &[f64], work: &[u32]) -> Welder
-    requires { ⌜ ((k : ℕ) → getD (now work) k 0 ≡ 0) × (2 * (length (now vertices) / 3) ≤ length (now work)) ⌝ }
-    ensures { λ r. ⌜ Begun r (now (vertices .entry)) (now (work .entry)) ⌝ }
+// Nothing is welded yet. The work slice becomes all zero: no vertex is in a chain.
+pub fn begin(vertices: &[f64], work: &mut [u32]) -> Welder
+    requires { ⌜ 2 * (length (now vertices) / 3) ≤ length (now work) ⌝ }
+    ensures { λ r. ⌜ Begun r (now (vertices .entry)) (now (work .exit)) ⌝ }
 {
+    slice::clear_numbers(work, 0);
     Welder {
         base: 0,
         count: 0,
@@ -64,15 +64,10 @@ pub fn begin(vertices: &[f64], work: &[u32]) -> Welder
 pub fn new_part(w: Welder) -> Welder
     ensures { λ r. ⌜ Parted w r ⌝ }
 {
-    Welder {
-        base: w.count,
-        count: w.count,
-        places: w.places,
-        faces: w.faces,
-        near: 0.0,
-        finite: w.finite,
-        room: w.room,
-        ordered: false,
-        rising: false,
-    }
+    let mut t = w;
+    t.base = w.count;
+    t.near = 0.0;
+    t.ordered = false;
+    t.rising = false;
+    t
 }

@@ -9,34 +9,18 @@ use crate::Welder;
 pub fn stopped(w: Welder) -> Welder
     ensures { λ r. ⌜ r ≡ unfinite w ⌝ }
 {
-    Welder {
-        base: w.base,
-        count: w.count,
-        places: w.places,
-        faces: w.faces,
-        near: w.near,
-        finite: false,
-        room: w.room,
-        ordered: w.ordered,
-        rising: w.rising,
-    }
+    let mut t = w;
+    t.finite = false;
+    t
 }
 
 // The state after the mesh did not fit.
 pub fn full(w: Welder) -> Welder
     ensures { λ r. ⌜ r ≡ shut w ⌝ }
 {
-    Welder {
-        base: w.base,
-        count: w.count,
-        places: w.places,
-        faces: w.faces,
-        near: w.near,
-        finite: w.finite,
-        room: false,
-        ordered: w.ordered,
-        rising: w.rising,
-    }
+    let mut t = w;
+    t.room = false;
+    t
 }
 
 // The state after a new vertex.
@@ -44,17 +28,12 @@ pub fn grown(w: Welder, f: Foreseen) -> Welder
     requires { ⌜ w .count < 2 ^ 32 ⌝ }
     ensures { λ r. ⌜ r ≡ more w f ⌝ }
 {
-    Welder {
-        base: w.base,
-        count: w.count + 1,
-        places: w.places,
-        faces: w.faces,
-        near: f.near,
-        finite: w.finite,
-        room: w.room,
-        ordered: f.fresh,
-        rising: f.rising,
-    }
+    let mut t = w;
+    t.count = w.count + 1;
+    t.near = f.near;
+    t.ordered = f.fresh;
+    t.rising = f.rising;
+    t
 }
 
 // The state after a new triangle.
@@ -62,32 +41,16 @@ pub fn with_face(w: Welder) -> Welder
     requires { ⌜ w .faces < 2 ^ 32 ⌝ }
     ensures { λ r. ⌜ r ≡ moreFaces w ⌝ }
 {
-    Welder {
-        base: w.base,
-        count: w.count,
-        places: w.places,
-        faces: w.faces + 1,
-        near: w.near,
-        finite: w.finite,
-        room: w.room,
-        ordered: w.ordered,
-        rising: w.rising,
-    }
+    let mut t = w;
+    t.faces = w.faces + 1;
+    t
 }
 
 // The state after all vertices of this part went into the chains.
 pub fn settled(w: Welder) -> Welder
     ensures { λ r. ⌜ r ≡ settledState w ⌝ }
 {
-    Welder {
-        base: w.base,
-        count: w.count,
-        places: w.places,
-        faces: w.faces,
-        near: w.near,
-        finite: w.finite,
-        room: w.room,
-        ordered: false,
-        rising: w.rising,
-    }
+    let mut t = w;
+    t.ordered = false;
+    t
 }

@@ -1,2 +1,2 @@
--- What the contracts of `weld_cell` cite.
+-- What the contracts of the crate `weld_cell` cite.
 pub mod Cell

@@ -1,18 +1,15 @@
 // TriMesh::from_soup of src/tessellate.rs over lent memory: a soup in a slice, nine floats a triangle, becomes a mesh in the lent slices, or is refused.
-ghost use mathlib.Core.Path.{_≡_};
-ghost use mathlib.Core.Bool.{false};
 ghost use mathlib.Core.List.{[], _∷_};
 ghost use Prim.Native.Nat.{_+_, _*_, _≤_};
 ghost use lib.ListN.{length};
 ghost use Rattle.weld.specs.Rep.{held, Ready, Runs};
-ghost use Rattle.tessellate_spec.specs.Outcome.{shortWork};
-ghost use Rattle.tessellate_spec.specs.Gives.{Gives};
-ghost use Rattle.tessellate_weld.specs.Steps.{Welded};
-ghost use Rattle.weld_from_soup.specs.Soups.{triangleAt, soupOf, fromSoupOf};
-use mesh::TriMesh;
+ghost use Rattle.mesh_spec.specs.Mesh.{fromSoup};
+ghost use Rattle.mesh_made.specs.Made.{lent, GivesMade};
+ghost use Rattle.mesh_made.specs.Steps.{Makes};
+ghost use Rattle.weld_from_soup.specs.Soups.{triangleAt, soupOf, soupRefusal, fromSoupOf};
+use mesh_made::Made;
 use mesh_triples::vertex;
 use refusal::Refusal;
-use tessellate_spec::Tessellated;
 use weld::Welder;
 
 // Welds triangle i.
@@ -59,14 +56,19 @@ fn weld_each(
     st
 }
 
-// Welds a soup from an empty mesh.
-fn weld_soup(soup: &[f64], vertices: &mut [f64], triangles: &mut [u32], work: &mut [u32]) -> Welder
-    requires { ⌜ shortWork (length (now vertices)) (length (now work)) ≡ false ⌝ }
-    ensures { λ w. ⌜ Welded (soupOf (now (soup .entry)) ∷ []) w (now (vertices .exit)) (now (triangles .exit)) ⌝ }
+// Welds a soup from an empty mesh, unless refusal 6 is due.
+fn make(soup: &[f64], vertices: &mut [f64], triangles: &mut [u32], work: &mut [u32]) -> Made
+    ensures { λ r. ⌜ Makes
+        (soupRefusal (soupOf (now (soup .entry))) (lent (now (vertices .entry)) (now (triangles .entry)) (now (work .entry))))
+        (fromSoup (soupOf (now (soup .entry))))
+        r (now (vertices .exit)) (now (triangles .exit)) ⌝ }
 {
-    slice::clear_numbers(work, 0);
+    if mesh_made::short_work(vertices.len(), work.len()) {
+        return mesh_made::refused(Refusal::ShortWork);
+    }
     let b = weld::begin(vertices, work);
-    weld::new_part(weld_each(vertices, triangles, work, b, soup))
+    let w = weld::new_part(weld_each(vertices, triangles, work, b, soup));
+    mesh_made::judge(w)
 }
 
 // from_soup: the mesh of a soup, nine floats a triangle, in the lent slices, or a refusal: 6, 5 or 7.
@@ -75,26 +77,11 @@ pub fn from_soup(
     vertices: &mut [f64],
     triangles: &mut [u32],
     work: &mut [u32],
-) -> Tessellated
-    ensures { λ r. ⌜ Gives
-        (fromSoupOf (soupOf (now (soup .entry))) (length (now (vertices .entry))) (length (now (triangles .entry))) (length (now (work .entry))))
+) -> Made
+    ensures { λ r. ⌜ GivesMade
+        (fromSoupOf (soupOf (now (soup .entry))) (lent (now (vertices .entry)) (now (triangles .entry)) (now (work .entry))))
         r (now (vertices .exit)) (now (triangles .exit)) (now (work .exit)) ⌝ }
 {
-    if work.len() < 2 * (vertices.len() / 3) {
-        return mesh_made::refuse(Refusal::ShortWork, vertices, triangles, work);
-    }
-    let w = weld_soup(soup, vertices, triangles, work);
-    let finite = w.finite;
-    let room = w.room;
-    if !finite {
-        return mesh_made::refuse(Refusal::PointNotFinite, vertices, triangles, work);
-    }
-    if !room {
-        return mesh_made::refuse(Refusal::NoRoom, vertices, triangles, work);
-    }
-    let counts = TriMesh {
-        vertices: w.count,
-        triangles: w.faces,
-    };
-    mesh_made::accept(counts, vertices, triangles, work)
+    let made = make(soup, vertices, triangles, work);
+    mesh_made::end(made, vertices, triangles, work)
 }

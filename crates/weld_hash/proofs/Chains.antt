@@ -8,8 +8,8 @@ use native.Mathlib.Nat.{le-refl, le-suc, le-trans, suc-inj, eq-or-lt-of-le, le-o
 use native.Mathlib.Numerals.{add-one}
 use native.Mathlib.Omega.{arith}
 use borrow.Author.Tests.{eqb-true, eqb-false, eq-eqb, ne-eqb}
-use lib.ListN.{length, getD, set, length-set}
-use lib.Seq.{getD-set-same}
+use lib.ListN.{length, getD, set, drop, length-set}
+use lib.Seq.{getD-set-same, drop-set-lt}
 use lib.Dec.{eqb}
 use lib.Ieee.{Float}
 use Rattle.slice_law.specs.Bools.{not-both}
@@ -18,10 +18,11 @@ use Rattle.mesh_spec.specs.Mesh.{samePoint}
 use Rattle.weld_hash.specs.declared.Found.{Found}
 use Rattle.weld_hash.specs.declared.Found.the-variants.{At, Missing}
 use Rattle.mesh_spec.specs.Slices.{vertexAt}
-use Rattle.weld_vertex.specs.Points.{Clean, placed}
-use Rattle.weld_hash.specs.Hash.{bucketOf, latest, Stored, Agrees, Chained, linkedIn, FirstAt, Sought, Placing}
+use Rattle.weld_vertex.specs.Points.{Clean}
+use Rattle.mesh_triples.specs.Triples.{putVertex}
+use Rattle.weld_hash.specs.Hash.{bucketOf, latest, Distinct, Agrees, Chained, Indexed, linkedIn, FirstAt, Sought, Placing}
 use Rattle.weld_vertex.proofs.Clean.{same-data}
-use Rattle.weld_vertex.proofs.Places.{placed-at, placed-before, apart}
+use Rattle.weld_vertex.proofs.Places.{put-at, put-before, apart}
 
 -- ---- the latest vertex of a bucket
 module _ (places : ℕ) (vs : List Float) (b : ℕ) where
@@ -97,7 +98,7 @@ split3 zero (suc n) = inl (omega arith)
 split3 (suc m) zero = inr (inr (omega arith))
 split3 (suc m) (suc n) = ⊎-elim (λ w. inl (suc-le-suc w)) (⊎-elim (λ e. inr (inl (ap suc e))) (λ w. inr (inr (suc-le-suc w)))) (split3 m n)
 
-module _ (vs : List Float) (places base count : ℕ) (h : Stored vs places base count) (p : Vec3) (cp : Clean p) where
+module _ (vs : List Float) (places base count : ℕ) (h : Distinct vs places base count) (p : Vec3) (cp : Clean p) where
   -- a vertex that equals p is in p's bucket
   in-bucket : (m : ℕ) → m < count → samePoint (vertexAt vs m) p ≡ true → bucketOf places (vertexAt vs m) ≡ bucketOf places p
   in-bucket m k s = ap (bucketOf places) (same-data (vertexAt vs m) p (h .clean m k) cp s)
@@ -152,70 +153,70 @@ module _ (vs : List Float) (places base count : ℕ) (h : Stored vs places base 
 
 -- ---- what was found stays found
 module _ (vs : List Float) (base count : ℕ) (p q : Vec3) (m : ℕ) (F : FirstAt vs base count q m) where
-  pub first-stays : FirstAt (placed vs count p) base (count + 1) q m
+  pub first-stays : FirstAt (putVertex vs count p) base (count + 1) q m
   first-stays =
       record {
         low = F .low;
         high = omega (arith, F .high);
-        equal = ap (λ (v : Vec3). samePoint v q) (placed-before vs count p m (F .high)) ∙ F .equal;
-        first = λ j a r t. F .first j a r (sym (ap (λ (v : Vec3). samePoint v q) (placed-before vs count p j (omega (arith, F .high)))) ∙ t);
+        equal = ap (λ (v : Vec3). samePoint v q) (put-before vs count p m (F .high)) ∙ F .equal;
+        first = λ j a r t. F .first j a r (sym (ap (λ (v : Vec3). samePoint v q) (put-before vs count p j (omega (arith, F .high)))) ∙ t);
       }
 
 -- the new vertex is found
 pub first-new : (vs : List Float) (base count : ℕ) (p : Vec3) → base ≤ count → 3 * count + 3 ≤ length vs → samePoint p p ≡ true → Sought vs base count p Missing
-    → FirstAt (placed vs count p) base (count + 1) p count
+    → FirstAt (putVertex vs count p) base (count + 1) p count
 first-new vs base count p b l s miss =
     record {
       low = b;
       high = omega arith;
-      equal = ap (λ (v : Vec3). samePoint v p) (placed-at vs count p l) ∙ s;
-      first = λ j a r t. miss j a r (sym (ap (λ (v : Vec3). samePoint v p) (placed-before vs count p j r)) ∙ t);
+      equal = ap (λ (v : Vec3). samePoint v p) (put-at vs count p l) ∙ s;
+      first = λ j a r t. miss j a r (sym (ap (λ (v : Vec3). samePoint v p) (put-before vs count p j r)) ∙ t);
     }
 
 -- ---- a vertex is written
-module _ (vs : List Float) (places base count : ℕ) (h : Stored vs places base count) (p : Vec3) (lt : count < places) where
-  old : (m : ℕ) → m < count → vertexAt (placed vs count p) m ≡ vertexAt vs m
-  old m k = placed-before vs count p m k
+module _ (vs : List Float) (places base count : ℕ) (h : Distinct vs places base count) (p : Vec3) (lt : count < places) where
+  old : (m : ℕ) → m < count → vertexAt (putVertex vs count p) m ≡ vertexAt vs m
+  old m k = put-before vs count p m k
 
-  new : vertexAt (placed vs count p) count ≡ p
-  new = placed-at vs count p (omega (arith, h .room))
+  new : vertexAt (putVertex vs count p) count ≡ p
+  new = put-at vs count p (omega (arith, h .room))
 
-  clean' : Clean p → (m : ℕ) → m < count + 1 → Clean (vertexAt (placed vs count p) m)
+  clean' : Clean p → (m : ℕ) → m < count + 1 → Clean (vertexAt (putVertex vs count p) m)
   clean' cp m k =
       ⊎-elim
-      (λ w. subst (λ (x : ℕ). Clean (vertexAt (placed vs count p) x)) (sym w) (subst Clean (sym new) cp))
+      (λ w. subst (λ (x : ℕ). Clean (vertexAt (putVertex vs count p) x)) (sym w) (subst Clean (sym new) cp))
       (λ w. subst Clean (sym (old m w)) (h .clean m w))
       (eq-or-lt-of-le {n = m} {m = count} (omega arith))
 
-  fresh' : Sought vs base count p Missing → (j m : ℕ) → base ≤ j → j < m → m < count + 1 → samePoint (vertexAt (placed vs count p) j) (vertexAt (placed vs count p) m) ≡ true → ⊥
+  fresh' : Sought vs base count p Missing → (j m : ℕ) → base ≤ j → j < m → m < count + 1 → samePoint (vertexAt (putVertex vs count p) j) (vertexAt (putVertex vs count p) m) ≡ true → ⊥
   fresh' miss j m g r k s =
       ⊎-elim
       (λ w. miss j g (omega arith) (sym (λ i. samePoint (old j (subst (λ (x : ℕ). j < x) w r) i) (at-count w i)) ∙ s))
       (λ w. h .fresh j m g r w (sym (λ i. samePoint (old j (omega arith) i) (old m w i)) ∙ s))
       (eq-or-lt-of-le {n = m} {m = count} (omega arith))
     where
-      at-count : m ≡ count → vertexAt (placed vs count p) m ≡ p
-      at-count w = ap (vertexAt (placed vs count p)) w ∙ new
+      at-count : m ≡ count → vertexAt (putVertex vs count p) m ≡ p
+      at-count w = ap (vertexAt (putVertex vs count p)) w ∙ new
 
-  pub stored-more : Clean p → Sought vs base count p Missing → Stored (placed vs count p) places base (count + 1)
-  stored-more cp miss =
+  pub distinct-more : Clean p → Sought vs base count p Missing → Distinct (putVertex vs count p) places base (count + 1)
+  distinct-more cp miss =
       record {
         room = simp length-set (h .room);
-        within = omega arith;
+        fits = omega arith;
         based = omega (arith, h .based);
         clean = clean' cp;
         fresh = fresh' miss;
       }
 
   -- chains of vertices before it stay as they are
-  pub chained-still : (ws : List ℕ) (n : ℕ) → n ≤ count → Chained vs ws places base n → Chained (placed vs count p) ws places base n
+  pub chained-still : (ws : List ℕ) (n : ℕ) → n ≤ count → Chained vs ws places base n → Chained (putVertex vs count p) ws places base n
   chained-still ws n k c =
       record {
         links = c .links;
-        heads = λ b l. agree-as refl (sym (latest-cong places (placed vs count p) vs b n (λ m j. old m (omega arith)))) (c .heads b l);
+        heads = λ b l. agree-as refl (sym (latest-cong places (putVertex vs count p) vs b n (λ m j. old m (omega arith)))) (c .heads b l);
         nexts = λ m a l. agree-as refl
             (ap (λ (v : Vec3). latest places vs (bucketOf places v) m) (sym (old m (omega arith)))
-            ∙ sym (latest-cong places (placed vs count p) vs (bucketOf places (vertexAt (placed vs count p) m)) m (λ j i. old j (omega arith))))
+            ∙ sym (latest-cong places (putVertex vs count p) vs (bucketOf places (vertexAt (putVertex vs count p) m)) m (λ j i. old j (omega arith))))
             (c .nexts m a l);
       }
 
@@ -259,6 +260,18 @@ module _ (vs : List Float) (ws : List ℕ) (places base n : ℕ) (c : Chained vs
   pub chained-next : Chained vs (linkedIn ws places n b) places base (n + 1)
   chained-next = record { links = simp length-set (c .links); heads = heads'; nexts = nexts' }
 
+-- the same, and what stands beyond the chains stays
+pub indexed-next : {vs : List Float} {ws₀ ws ws′ : List ℕ} {places base n : ℕ} (b : ℕ) → Indexed vs ws₀ places base n ws → n < places → b < places
+    → ws′ ≡ linkedIn ws places n b → Chained vs (linkedIn ws places n b) places base (n + 1) → Indexed vs ws₀ places base (n + 1) ws′
+indexed-next {vs} {ws₀} {ws} {ws′} {places} {base} {n} b I l k e C = record {
+  chained = subst (λ (x : List ℕ). Chained vs x places base (n + 1)) (sym e) C;
+  beyond =
+      ap {B = List ℕ} (drop (2 * places)) e
+      ∙ drop-set-lt (2 * places) (set ws (places + n) (getD ws b 0)) b (n + 1) (omega arith)
+      ∙ drop-set-lt (2 * places) ws (places + n) (getD ws b 0) (omega arith)
+      ∙ I .beyond;
+}
+
 -- a new part has no vertices yet: whatever the chains lead to is earlier
 pub chained-part : (vs : List Float) (ws : List ℕ) (places base n count : ℕ) → Chained vs ws places base n → base ≤ n → n ≤ count → Chained vs ws places count count
 chained-part vs ws places base n count c l k =
@@ -272,11 +285,11 @@ chained-part vs ws places base n count c l k =
     }
 
 -- a point is written and put at the head of its bucket
-pub chained-more : (vs : List Float) (ws : List ℕ) (places base count : ℕ) → Stored vs places base count → Chained vs ws places base count → (p : Vec3) → count < places
-    → (b : ℕ) → b ≡ bucketOf places p → b < places → Chained (placed vs count p) (linkedIn ws places count b) places base (count + 1)
+pub chained-more : (vs : List Float) (ws : List ℕ) (places base count : ℕ) → Distinct vs places base count → Chained vs ws places base count → (p : Vec3) → count < places
+    → (b : ℕ) → b ≡ bucketOf places p → b < places → Chained (putVertex vs count p) (linkedIn ws places count b) places base (count + 1)
 chained-more vs ws places base count h c p lt b e bl =
-    chained-next (placed vs count p) ws places base count (chained-still vs places base count h p lt ws count (omega arith) c) lt b
-    (e ∙ sym (ap (bucketOf places) (placed-at vs count p (omega (arith, h .room))))) bl
+    chained-next (putVertex vs count p) ws places base count (chained-still vs places base count h p lt ws count (omega arith) c) lt b
+    (e ∙ sym (ap (bucketOf places) (put-at vs count p (omega (arith, h .room))))) bl
 
 -- ---- the cases of `number_of`
 
@@ -290,7 +303,7 @@ module _ (places base count : ℕ) (p : Vec3) (vs : List Float) (ws : List ℕ) 
       record { found = λ l. (F, refl, refl); new = λ e. absurd (omega (arith, F .high)); full = λ l. absurd (omega (arith, F .high)) }
 
   pub placing-new : (b : ℕ) → b ≡ bucketOf places p → b < places → Sought vs base count p Missing → count < places
-      → Placing places base count p vs ws count (placed vs count p) (linkedIn ws places count b)
+      → Placing places base count p vs ws count (putVertex vs count p) (linkedIn ws places count b)
   placing-new b e l F k =
       record {
         found = λ r. absurd (omega arith);

@@ -3,7 +3,7 @@ use mathlib.Core.Path.{_≡_}
 use mathlib.Core.Bool.{true, cond}
 use mathlib.Core.List.{List}
 use Prim.Native.Nat.{ℕ, zero, suc, _+_, _*_, _/_, _%_, _≤_, _<_}
-use lib.ListN.{length, getD, set}
+use lib.ListN.{length, getD, set, drop}
 use lib.Dec.{eqb}
 use lib.Ieee.{Float, toBits, binary64}
 use Rattle.math.specs.declared.Vec3.{Vec3}
@@ -11,7 +11,8 @@ use Rattle.mesh_spec.specs.Mesh.{samePoint}
 use Rattle.weld_hash.specs.declared.Found.{Found}
 use Rattle.weld_hash.specs.declared.Found.the-variants.{At, Missing}
 use Rattle.mesh_spec.specs.Slices.{vertexAt}
-use Rattle.weld_vertex.specs.Points.{Clean, placed}
+use Rattle.weld_vertex.specs.Points.{Clean}
+use Rattle.mesh_triples.specs.Triples.{putVertex}
 
 -- a number's halves, multiplied apart
 unfoldable pub spreadOf : ℕ → ℕ → ℕ → ℕ
@@ -22,15 +23,16 @@ unfoldable pub middleOf : ℕ → ℕ
 middleOf t = t % 4294967296 * (t / 4294967296 + 1905421161) / 65536 % 4294967296
 
 -- the bits of a point's coordinates in one number
-unfoldable pub sumOf : Vec3 → ℕ
-sumOf p =
+unfoldable pub foldOf : Vec3 → ℕ
+foldOf p =
     spreadOf (toBits binary64 (p .x)) 435250745 462664305
     + spreadOf (toBits binary64 (p .y)) 475705909 453967447
     + spreadOf (toBits binary64 (p .z)) 534814063 531086897
 
--- the bucket of a point: every bit of the coordinates reaches every bit of the 32 that are scaled to the places
+-- the bucket of a point: every bit of the coordinates reaches every bit of the 32 that are scaled to the places. Points of drawings spread over the
+-- buckets. Its numbers are fixed and known, so it is no defence against coordinates that are chosen to collide: those make a look-up slow, and never wrong.
 unfoldable pub bucketOf : ℕ → Vec3 → ℕ
-bucketOf places p = middleOf (spreadOf (sumOf p) 1721092421 1) * places / 4294967296
+bucketOf places p = middleOf (spreadOf (foldOf p) 1721092421 1) * places / 4294967296
 
 -- one more than the largest m below n whose vertex is in the bucket b, or 0
 unfoldable pub latest : ℕ → List Float → ℕ → ℕ → ℕ
@@ -38,9 +40,9 @@ latest places vs b zero = zero
 latest places vs b (suc n) = cond (eqb (bucketOf places (vertexAt vs n)) b) (suc n) (latest places vs b n)
 
 -- the vertices below `count` lie in the slice, and no two of those from `base` on are equal
-pub record Stored (vs : List Float) (places base count : ℕ) : Type 0 where
+pub record Distinct (vs : List Float) (places base count : ℕ) : Type 0 where
   pub room : 3 * places ≤ length vs
-  pub within : count ≤ places
+  pub fits : count ≤ places
   pub based : base ≤ count
   pub clean : (m : ℕ) → m < count → Clean (vertexAt vs m)
   pub fresh : (j m : ℕ) → base ≤ j → j < m → m < count → samePoint (vertexAt vs j) (vertexAt vs m) ≡ true → ⊥
@@ -55,6 +57,11 @@ pub record Chained (vs : List Float) (ws : List ℕ) (places base n : ℕ) : Typ
   pub links : 2 * places ≤ length ws
   pub heads : (b : ℕ) → b < places → Agrees base (getD ws b 0) (latest places vs b n)
   pub nexts : (m : ℕ) → base ≤ m → m < n → Agrees base (getD ws (places + m) 0) (latest places vs (bucketOf places (vertexAt vs m)) m)
+
+-- the chains hold the vertices from base below n, and what stands beyond them in the work slice is as it was
+pub record Indexed (vs : List Float) (ws : List ℕ) (places base n : ℕ) (ws′ : List ℕ) : Type 0 where
+  pub chained : Chained vs ws′ places base n
+  pub beyond : drop (2 * places) ws′ ≡ drop (2 * places) ws
 
 -- the work slice with vertex n put at the head of the bucket b
 abbrev pub linkedIn : List ℕ → ℕ → ℕ → ℕ → List ℕ
@@ -75,5 +82,5 @@ Sought vs base count p Missing = (m : ℕ) → base ≤ m → m < count → same
 -- p got the number m: it was found, and nothing changed; or it is new, and vertex `count`; or there was no place for it
 pub record Placing (places base count : ℕ) (p : Vec3) (vs : List Float) (ws : List ℕ) (m : ℕ) (vs′ : List Float) (ws′ : List ℕ) : Type 0 where
   pub found : m < count → FirstAt vs base count p m × (vs′ ≡ vs) × (ws′ ≡ ws)
-  pub new : m ≡ count → Sought vs base count p Missing × (count < places) × (bucketOf places p < places) × (vs′ ≡ placed vs count p) × (ws′ ≡ linkedIn ws places count (bucketOf places p))
+  pub new : m ≡ count → Sought vs base count p Missing × (count < places) × (bucketOf places p < places) × (vs′ ≡ putVertex vs count p) × (ws′ ≡ linkedIn ws places count (bucketOf places p))
   pub full : count < m → Sought vs base count p Missing × (places ≤ count) × (vs′ ≡ vs) × (ws′ ≡ ws)

@@ -3,7 +3,7 @@ ghost use mathlib.Core.Path.{_≡_};
 ghost use Prim.Native.Nat.{_+_, _*_, _<_, _≤_, _^_};
 ghost use lib.ListN.{length};
 ghost use Rattle.weld_vertex.specs.Points.{Clean};
-ghost use Rattle.weld_hash.specs.Hash.{spreadOf, middleOf, bucketOf, Stored, Chained, linkedIn, Sought, Placing};
+ghost use Rattle.weld_hash.specs.Hash.{spreadOf, middleOf, bucketOf, Distinct, Chained, Indexed, linkedIn, Sought, Placing};
 use math::Vec3;
 
 // What a look-up finds: the number of a vertex, or none.
@@ -36,6 +36,7 @@ fn middle(t: u64) -> u64
 }
 
 // The bucket of a point. Coordinates that differ in their last bits only have far buckets too: each bit reaches every bit.
+// Coordinates can be chosen to collide: the chains are then long, and the number that is found is the same.
 fn bucket_of(p: Vec3, places: usize) -> usize
     requires { ⌜ (0 < places) × (places < 2 ^ 32) × Clean p ⌝ }
     ensures { λ r. ⌜ (r ≡ bucketOf places p) × (r < places) ⌝ }
@@ -57,14 +58,14 @@ fn find(
     bucket: usize,
     p: Vec3,
 ) -> Found
-    requires { ⌜ Stored (now vertices) places base count × Chained (now vertices) (now work) places base count ⌝ }
+    requires { ⌜ Distinct (now vertices) places base count × Chained (now vertices) (now work) places base count ⌝ }
     requires { ⌜ (bucket ≡ bucketOf places p) × (bucket < places) × Clean p ⌝ }
     ensures { λ r. ⌜ Sought (now (vertices .entry)) base count p r ⌝ }
 {
     let mut k = wide(work[bucket]);
     while base < k {
         let m = k - 1;
-        if weld_vertex::equal(weld_vertex::vertex(vertices, m), p) {
+        if weld_vertex::equal(mesh_triples::vertex(vertices, m), p) {
             return Found::At(m);
         }
         k = wide(work[places + m]);
@@ -84,8 +85,8 @@ fn link(work: &mut [u32], places: usize, m: usize, bucket: usize)
 
 // Puts the vertices from `base` below `count` into their buckets. None of them is in one before.
 pub fn index(vertices: &[f64], work: &mut [u32], places: usize, base: usize, count: usize)
-    requires { ⌜ Stored (now vertices) places base count × (places < 2 ^ 32) × Chained (now vertices) (now work) places base base ⌝ }
-    ensures { λ _. ⌜ Chained (now (vertices .entry)) (now (work .exit)) places base count ⌝ }
+    requires { ⌜ Distinct (now vertices) places base count × (places < 2 ^ 32) × Chained (now vertices) (now work) places base base ⌝ }
+    ensures { λ _. ⌜ Indexed (now (vertices .entry)) (now (work .entry)) places base count (now (work .exit)) ⌝ }
 {
     let mut m = base;
     while m < count {
@@ -93,7 +94,7 @@ pub fn index(vertices: &[f64], work: &mut [u32], places: usize, base: usize, cou
             work,
             places,
             m,
-            bucket_of(weld_vertex::vertex(vertices, m), places),
+            bucket_of(mesh_triples::vertex(vertices, m), places),
         );
         m += 1;
     }
@@ -109,7 +110,7 @@ pub fn number_of(
     count: usize,
     p: Vec3,
 ) -> usize
-    requires { ⌜ Stored (now vertices) places base count × Chained (now vertices) (now work) places base count ⌝ }
+    requires { ⌜ Distinct (now vertices) places base count × Chained (now vertices) (now work) places base count ⌝ }
     requires { ⌜ (0 < places) × (places < 2 ^ 32) × Clean p ⌝ }
     ensures { λ r. ⌜ Placing places base count p (now (vertices .entry)) (now (work .entry)) r (now (vertices .exit)) (now (work .exit)) ⌝ }
 {
@@ -119,7 +120,7 @@ pub fn number_of(
         Found::At(m) => m,
         Found::Missing => {
             if count < places {
-                weld_vertex::place(vertices, count, p);
+                mesh_triples::put_vertex(vertices, count, p);
                 link(work, places, count, bucket);
                 count
             } else {

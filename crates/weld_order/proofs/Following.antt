@@ -11,9 +11,9 @@ use Rattle.math.specs.declared.Vec3.{Vec3}
 use Rattle.weld_vertex.specs.Points.{CleanFloat, Clean}
 use Rattle.weld_vertex.proofs.Clean.{eq-data}
 use Rattle.weld_order.specs.declared.Row.{Row}
-use Rattle.weld_order.specs.Rows.{beside, within, Follows}
+use Rattle.weld_order.specs.Rows.{beside, among, firstRow, nextRow, Follows}
+use Rattle.weld_order.proofs.Among.{level-is, above-is, facts, made, rising-near, rising-facts, falling-facts, rising-made, falling-made}
 use Rattle.slice_law.specs.Bools.{false-T}
-use Rattle.weld_order.proofs.Within.{level-is, above-is, facts, made, rising-near, rising-facts, falling-facts, rising-made, falling-made}
 
 number : (x : Float) → CleanFloat x → T (not (isNan x))
 number x c = finite-not-nan x (c .finitely)
@@ -34,13 +34,23 @@ below-all a p q n m h k = go (lt p q) (λ l. T-not (le a p) h (le-trans a q p k 
     go true f = tt
     go false f = absurd (f tt)
 
+-- ---- which row `next_row` answers
+module _ (r : Row) (v p : Vec3) where
+  pub row-lower : eq (v .z) (p .z) ≡ false → firstRow p ≡ nextRow r v p
+  unfolding nextRow
+  row-lower e = rw e
+
+  pub row-level : (b : Bool) → eq (v .z) (p .z) ≡ true → le (r .near) (p .y) ≡ b → record { near = r .near; rising = not b } ≡ nextRow r v p
+  unfolding nextRow
+  row-level b e n = rw (e, n)
+
 -- a point alone in its row
-pub alone : (p : Vec3) → Clean p → within (record { near = p .y; rising = false }) p p ≡ true
+pub alone : (p : Vec3) → Clean p → among (record { near = p .y; rising = false }) p p ≡ true
 alone p C =
     made (record { near = p .y; rising = false }) p p
     (inr (eq-refl (p .z) (number (p .z) (C .cz)), falling-made (record { near = p .y; rising = false }) p p refl (le-refl (p .x) (number (p .x) (C .cx))) (le-refl (p .y) (number (p .y) (C .cy)))))
 
-module _ (r : Row) (v p : Vec3) (L : Clean v) (P : Clean p) (o : within r v p ≡ false) where
+module _ (r : Row) (v p : Vec3) (L : Clean v) (P : Clean p) (o : among r v p ≡ false) where
   not-above : (b : Bool) → lt (v .z) (p .z) ≡ b → lt (v .z) (p .z) ≡ false
   not-above true e = absurd (true≢false (above-is r v p e ∙ o))
   not-above false e = e
@@ -67,7 +77,7 @@ module _ (r : Row) (v p : Vec3) (L : Clean v) (P : Clean p) (o : within r v p �
     aside : beside r v p ≡ false
     aside = level-is r v p under e ∙ o
 
-    -- all points within r, with another row at the same height
+    -- all points so far, with another row at the same height
     moved : (s : Row) → T (beside s p p) → ((q : Vec3) → T (beside r v q) → T (beside s p q)) → Follows r v p s
     moved s b f = record { has = made s p p (inr (eq-refl (p .z) (number (p .z) (P .cz)), b)); keeps = λ q Q h. made s p q (go q (facts r v q h)) }
       where

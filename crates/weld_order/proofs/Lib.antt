@@ -1,3 +1,3 @@
 -- Laws that the proofs of the functions use.
-pub mod Within
+pub mod Among
 pub mod Following

@@ -3,7 +3,7 @@
 ghost use mathlib.Core.Path.{_≡_};
 ghost use mathlib.Core.Bool.{true, false};
 ghost use Rattle.weld_vertex.specs.Points.{Clean};
-ghost use Rattle.weld_order.specs.Rows.{beside, within, Follows};
+ghost use Rattle.weld_order.specs.Rows.{beside, among, firstRow, nextRow, Follows};
 use math::Vec3;
 
 // The row of the last point. While x falls, y is `near` or more; once `rising`, each point of the row has such a y or is left of the last.
@@ -29,9 +29,9 @@ fn is_beside(row: Row, last: Vec3, p: Vec3) -> bool
     false
 }
 
-// Whether p may be one of the points so far: it lies above the row, or beside.
-pub fn is_within(row: Row, last: Vec3, p: Vec3) -> bool
-    ensures { λ r. ⌜ r ≡ within row last p ⌝ }
+// Whether p may be among the points so far: it lies above the row, or beside.
+pub fn is_among(row: Row, last: Vec3, p: Vec3) -> bool
+    ensures { λ r. ⌜ r ≡ among row last p ⌝ }
 {
     if last.z < p.z {
         return true;
@@ -45,7 +45,7 @@ pub fn is_within(row: Row, last: Vec3, p: Vec3) -> bool
 // The row of a single point.
 pub fn first_row(p: Vec3) -> Row
     requires { ⌜ Clean p ⌝ }
-    ensures { λ r. ⌜ within r p p ≡ true ⌝ }
+    ensures { λ r. ⌜ (r ≡ firstRow p) × (among r p p ≡ true) ⌝ }
 {
     Row {
         near: p.y,
@@ -55,8 +55,8 @@ pub fn first_row(p: Vec3) -> Row
 
 // The row after p, which is none of the points so far.
 pub fn next_row(row: Row, last: Vec3, p: Vec3) -> Row
-    requires { ⌜ Clean last × Clean p × (within row last p ≡ false) ⌝ }
-    ensures { λ r. ⌜ Follows row last p r ⌝ }
+    requires { ⌜ Clean last × Clean p × (among row last p ≡ false) ⌝ }
+    ensures { λ r. ⌜ (r ≡ nextRow row last p) × Follows row last p r ⌝ }
 {
     if last.z == p.z {
         if row.near <= p.y {

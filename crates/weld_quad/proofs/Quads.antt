@@ -16,7 +16,7 @@ use Rattle.mesh_spec.specs.Mesh.{Mesh, samePoint, plusZeroV, weldTriangle, weld
 use Rattle.mesh_spec.specs.Slices.{vertexAt}
 use Rattle.weld_vertex.specs.Points.{Clean}
 use Rattle.weld_vertex.proofs.Clean.{clean-self, equal-clean}
-use Rattle.weld_hash.specs.Hash.{Stored, FirstAt}
+use Rattle.weld_hash.specs.Hash.{Distinct, FirstAt}
 use Rattle.slice_law.specs.Bools.{not-both}
 use Rattle.weld_hash.proofs.Chains.{first-at}
 use Rattle.weld.specs.declared.Welder.{Welder}
@@ -62,7 +62,7 @@ pub quad-stops : (w : Welder) (vs : List Float) (ts ws : List ℕ) (a b c d : Ve
 unfolding everyFinite
 quad-stops w vs ts ws a b c d R n =
     record {
-      ready = record { linked = record { stored = R .linked .stored; chained = R .linked .chained; places = R .linked .places; rows = R .linked .rows }; faces = R .faces };
+      ready = record { linked = record { distinct = R .linked .distinct; chained = R .linked .chained; places = R .linked .places; rows = R .linked .rows }; faces = R .faces };
       vlong = refl;
       tlong = refl;
       wlong = refl;
@@ -73,7 +73,7 @@ quad-stops w vs ts ws a b c d R n =
 -- ---- points whose vertices are known
 
 -- a point that equals a vertex of this part
-pub known-at : (w : Welder) (vs : List Float) (p : Vec3) (m : ℕ) → Stored vs (w .places) (w .base) (w .count) → T (fits binary64 (p .x)) → T (fits binary64 (p .y)) → T (fits binary64 (p .z))
+pub known-at : (w : Welder) (vs : List Float) (p : Vec3) (m : ℕ) → Distinct vs (w .places) (w .base) (w .count) → T (fits binary64 (p .x)) → T (fits binary64 (p .y)) → T (fits binary64 (p .z))
     → w .base ≤ m → m < w .count → samePoint (vertexAt vs m) p ≡ true → Known w vs p m
 known-at w vs p m S fx fy fz l i e =
     let c : Clean (vertexAt vs m) = S .clean m i in
@@ -91,7 +91,7 @@ known-stopped w vs p m f = record { finite = λ e. absurd (not-both (w .finite) 
 
 -- the number of a vertex is a 32-bit number
 pub known-small : (w : Welder) (vs : List Float) (ws : List ℕ) (p : Vec3) (m : ℕ) → Linked w vs ws → w .finite ≡ true → w .room ≡ true → Known w vs p m → m < 2 ^ 32
-known-small w vs ws p m L f r K = omega (arith, K .first f r .high, L .places, places-limit vs, L .stored .within)
+known-small w vs ws p m L f r K = omega (arith, K .first f r .high, L .places, places-limit vs, L .distinct .fits)
 
 pub numbered-stopped : (soup : List (Tri Vec3)) (a b c d : Vec3) (h : Held) (q : Quad) (vs : List Float) (ts ws : List ℕ) → q .st .finite ≡ false → Runs soup h (held (q .st) vs ts ws)
     → Numbered soup a b c d h q vs ts ws

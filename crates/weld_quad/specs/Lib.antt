@@ -1,2 +1,2 @@
--- What the contracts of `weld_quad` cite.
+-- What the contracts of the crate `weld_quad` cite.
 pub mod Quads

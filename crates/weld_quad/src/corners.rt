@@ -3,7 +3,7 @@ ghost use mathlib.Core.Path.{_≡_};
 ghost use mathlib.Core.Bool.{true, _&&_};
 ghost use Prim.Native.Nat.{_<_, _^_};
 ghost use Rattle.weld_vertex.specs.Points.{Clean};
-ghost use Rattle.weld_hash.specs.Hash.{Stored};
+ghost use Rattle.weld_hash.specs.Hash.{Distinct};
 ghost use Rattle.weld.specs.Rep.{held, Ready};
 ghost use Rattle.weld_quad.specs.Quads.{isVertex, Known, CornersRun, LastRuns};
 use crate::Quad;
@@ -13,7 +13,7 @@ use weld_triangle::Welded;
 
 // Whether p equals vertex m, and this is one of this part. If so p is finite, as all vertices are.
 pub fn is_vertex(vertices: &[f64], w: Welder, m: usize, p: Vec3) -> bool
-    requires { ⌜ Stored (now vertices) (w .places) (w .base) (w .count) ⌝ }
+    requires { ⌜ Distinct (now vertices) (w .places) (w .base) (w .count) ⌝ }
     ensures { λ r. ⌜ (r ≡ isVertex w (now (vertices .entry)) p m) × (r ≡ true → Known w (now (vertices .entry)) p m) ⌝ }
 {
     weld_vertex::is_at(vertices, w.base, w.count, m, p)
@@ -30,7 +30,7 @@ pub fn are_at(
     nb: usize,
     nd: usize,
 ) -> bool
-    requires { ⌜ Stored (now vertices) (w .places) (w .base) (w .count) ⌝ }
+    requires { ⌜ Distinct (now vertices) (w .places) (w .base) (w .count) ⌝ }
     ensures { λ r. ⌜ (r ≡ (isVertex w (now (vertices .entry)) a na && isVertex w (now (vertices .entry)) b nb && isVertex w (now (vertices .entry)) d nd))
         × (r ≡ true → Known w (now (vertices .entry)) a na × Known w (now (vertices .entry)) b nb × Known w (now (vertices .entry)) d nd) ⌝ }
 {

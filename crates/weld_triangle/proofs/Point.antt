@@ -18,18 +18,19 @@ use Rattle.mesh_spec.specs.WeldLaws.{sight-at, sight-none, with-seen, with-new,
 use Rattle.weld_hash.specs.declared.Found.the-variants.{Missing}
 use Rattle.weld.specs.declared.Welder.{Welder}
 use Rattle.weld.specs.declared.Foreseen.{Foreseen}
-use Rattle.weld_vertex.specs.Points.{Clean, placed}
+use Rattle.weld_vertex.specs.Points.{Clean}
+use Rattle.mesh_triples.specs.Triples.{putVertex}
 use Rattle.weld_hash.specs.Hash.{bucketOf, Chained, linkedIn, FirstAt, Sought}
-use Rattle.weld_order.specs.Rows.{within}
+use Rattle.weld_order.specs.Rows.{among}
 use Rattle.weld.specs.Rep.{Held, held, InRow, indexed, Linked, Holds, Over, Rep}
 use Rattle.weld.specs.States.{shut, more, rowSeen, settled, Foresees}
 use Rattle.weld_triangle.specs.declared.Welded.{Welded}
 use Rattle.weld_triangle.specs.Steps.{withVertex, PointRuns}
 use Rattle.weld.proofs.Places.{take-three, take-vertex, flatV-at, places-limit, places-long}
 use Rattle.weld_vertex.proofs.Clean.{clean-self}
-use Rattle.weld_vertex.proofs.Places.{placed-at, placed-before}
+use Rattle.weld_vertex.proofs.Places.{put-at, put-before}
+use Rattle.weld_hash.proofs.Chains.{first-stays, first-new, distinct-more, chained-still, chained-more}
 use Rattle.slice_law.specs.Bools.{not-both}
-use Rattle.weld_hash.proofs.Chains.{first-stays, first-new, stored-more, chained-still, chained-more}
 
 -- ---- a look-up in the slice is a look-up in the part
 module _ (us ws : List Vec3) (vs : List Float) (count : ℕ) (front : flatV (us ++ ws) ≡ take (3 * count) vs) (long : length (us ++ ws) ≡ count) (p : Vec3) where
@@ -132,7 +133,7 @@ module _ (w : Welder) (vs : List Float) (ws : List ℕ) (L : Linked w vs ws) (p 
         faces = refl;
         finite = refl;
         sticky = λ q. q;
-        small = omega (arith, F .high, L .places, places-limit vs, L .stored .within);
+        small = omega (arith, F .high, L .places, places-limit vs, L .distinct .fits);
         rep = λ D S ts R. subst (λ (us : List Vec3). Rep D (record { vertices = us; triangles = S .triangles }) (here ts)) (sym (with-seen (S .vertices) p (omega
             (arith, F .high, seen D S ts m e F R, long D S ts e R)))) R;
         number = λ D S ts R q. seen D S ts m e F R;
@@ -143,7 +144,7 @@ module _ (w : Welder) (vs : List Float) (ws : List ℕ) (L : Linked w vs ws) (p 
   pub point-full : w .room ≡ true → Sought vs (w .base) (w .count) p Missing → w .places ≤ w .count → PointRuns p w vs ws (record { number = 0; st = shut w }) vs ws
   point-full e F k =
       record {
-        linked = record { stored = L .stored; chained = L .chained; places = L .places; rows = L .rows };
+        linked = record { distinct = L .distinct; chained = L .chained; places = L .places; rows = L .rows };
         faces = refl;
         finite = refl;
         sticky = λ q. e;
@@ -160,7 +161,7 @@ module _ (w : Welder) (vs : List Float) (ws : List ℕ) (L : Linked w vs ws) (p 
       }
 
   abbrev vs₁ : List Float
-  vs₁ = placed vs (w .count) p
+  vs₁ = putVertex vs (w .count) p
 
   -- the state after p became a vertex
   module _ (f : Foreseen) (W : f .fresh ≡ true → InRow (w .base) (w .count) vs p (rowSeen f)) where
@@ -170,22 +171,22 @@ module _ (w : Welder) (vs : List Float) (ws : List ℕ) (L : Linked w vs ws) (p 
           vertices =
               flatV-append (M .vertices) (p ∷ [])
               ∙ ap (λ (l : List Float). l ++ (p .x ∷ p .y ∷ p .z ∷ [])) (H .vertices)
-              ∙ sym (ap (λ (n : ℕ). take n vs₁) (three-more (w .count)) ∙ take-three vs (3 * w .count) (p .x) (p .y) (p .z) (omega (arith, L .stored .room)));
+              ∙ sym (ap (λ (n : ℕ). take n vs₁) (three-more (w .count)) ∙ take-three vs (3 * w .count) (p .x) (p .y) (p .z) (omega (arith, L .distinct .room)));
           count = length-append (M .vertices) (p ∷ []) ∙ ap (λ (n : ℕ). n + 1) (H .count);
           triangles = H .triangles;
           faces = H .faces;
         }
 
-    rows-more : w .count < w .places → f .fresh ≡ true → (m : ℕ) → w .base ≤ m → m < w .count + 1 → within (rowSeen f) (vertexAt vs₁ (w .count + 1 - 1)) (vertexAt vs₁ m) ≡ true
+    rows-more : w .count < w .places → f .fresh ≡ true → (m : ℕ) → w .base ≤ m → m < w .count + 1 → among (rowSeen f) (vertexAt vs₁ (w .count + 1 - 1)) (vertexAt vs₁ m) ≡ true
     rows-more k q m a l =
-        ap (λ (v : Vec3). within (rowSeen f) v (vertexAt vs₁ m)) (ap (vertexAt vs₁) (add-sub-cancel (w .count) 1) ∙ last)
+        ap (λ (v : Vec3). among (rowSeen f) v (vertexAt vs₁ m)) (ap (vertexAt vs₁) (add-sub-cancel (w .count) 1) ∙ last)
         ∙ ⊎-elim
-        (λ e. ap (λ (n : ℕ). within (rowSeen f) p (vertexAt vs₁ n)) e ∙ ap (within (rowSeen f) p) last ∙ W q .has)
-        (λ j. ap (within (rowSeen f) p) (placed-before vs (w .count) p m j) ∙ W q .keeps m a j)
+        (λ e. ap (λ (n : ℕ). among (rowSeen f) p (vertexAt vs₁ n)) e ∙ ap (among (rowSeen f) p) last ∙ W q .has)
+        (λ j. ap (among (rowSeen f) p) (put-before vs (w .count) p m j) ∙ W q .keeps m a j)
         (eq-or-lt-of-le {n = m} {m = w .count} (omega arith))
       where
         last : vertexAt vs₁ (w .count) ≡ p
-        last = placed-at vs (w .count) p (omega (arith, L .stored .room))
+        last = put-at vs (w .count) p (omega (arith, L .distinct .room))
 
     -- p became a vertex, and the chains are ws′ now
     grown-runs : (ws′ : List ℕ) → Clean p → Chained vs₁ ws′ (w .places) (w .base) (indexed (more w f)) → w .room ≡ true → Sought vs (w .base) (w .count) p Missing → w .count < w .places
@@ -193,7 +194,7 @@ module _ (w : Welder) (vs : List Float) (ws : List ℕ) (L : Linked w vs ws) (p 
     grown-runs ws′ cp C e F k =
         record {
           linked = record {
-            stored = stored-more vs (w .places) (w .base) (w .count) (L .stored) p k cp F;
+            distinct = distinct-more vs (w .places) (w .base) (w .count) (L .distinct) p k cp F;
             chained = C;
             places = L .places ∙ places-long vs vs₁ (sym (simp length-set));
             rows = rows-more k;
@@ -209,7 +210,7 @@ module _ (w : Welder) (vs : List Float) (ws : List ℕ) (L : Linked w vs ws) (p 
             over = λ q. absurd (not-both (w .room) e q);
           };
           number = λ D S ts R q. omega (arith, unseen D S ts e F R, long D S ts e R);
-          here = λ q. first-new vs (w .base) (w .count) p (L .stored .based) (omega (arith, L .stored .room)) (clean-self p cp) F;
+          here = λ q. first-new vs (w .base) (w .count) p (L .distinct .based) (omega (arith, L .distinct .room)) (clean-self p cp) F;
           stays = λ q x n G. first-stays vs (w .base) (w .count) p x n G;
         }
 
@@ -219,7 +220,7 @@ module _ (w : Welder) (vs : List Float) (ws : List ℕ) (L : Linked w vs ws) (p 
   point-fresh f W e cp r k =
       grown-runs f (W .row) ws cp
       (subst (Chained vs₁ ws (w .places) (w .base)) (sym (ap (λ (b : Bool). cond b (w .base) (w .count + 1)) e))
-      (chained-still vs (w .places) (w .base) (w .count) (L .stored) p k ws (w .base) (L .stored .based) (subst (Chained vs ws (w .places) (w .base)) (W .loose e) (L .chained))))
+      (chained-still vs (w .places) (w .base) (w .count) (L .distinct) p k ws (w .base) (L .distinct .based) (subst (Chained vs ws (w .places) (w .base)) (W .loose e) (L .chained))))
       r (W .missing e) k
 
   -- a search showed it: p goes into its chain
@@ -229,7 +230,7 @@ module _ (w : Welder) (vs : List Float) (ws : List ℕ) (L : Linked w vs ws) (p 
   point-new f e o cp b eb bl r F k =
       grown-runs f (λ q. absurd (not-both (f .fresh) q e)) (linkedIn ws (w .places) (w .count) b) cp
       (subst (Chained vs₁ (linkedIn ws (w .places) (w .count) b) (w .places) (w .base)) (sym (ap (λ (t : Bool). cond t (w .base) (w .count + 1)) e))
-      (chained-more vs ws (w .places) (w .base) (w .count) (L .stored)
+      (chained-more vs ws (w .places) (w .base) (w .count) (L .distinct)
       (subst (Chained vs ws (w .places) (w .base)) (ap (λ (t : Bool). cond t (w .base) (w .count)) o) (L .chained)) p k b eb bl))
       r F k
 
@@ -279,4 +280,4 @@ point-settled w vs ws ws′ p r vs₂ ws₂ P =
     }
 
 pub linked-settled : (w : Welder) (vs : List Float) (ws ws′ : List ℕ) → Linked w vs ws → Chained vs ws′ (w .places) (w .base) (w .count) → Linked (settled w) vs ws′
-linked-settled w vs ws ws′ L C = record { stored = L .stored; chained = C; places = L .places; rows = λ q. absurd (not-both false q refl) }
+linked-settled w vs ws ws′ L C = record { distinct = L .distinct; chained = C; places = L .places; rows = λ q. absurd (not-both false q refl) }

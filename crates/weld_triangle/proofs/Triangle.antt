@@ -171,7 +171,7 @@ module _ (a b c : ℕ) (w : Welder) (ts : List ℕ) (fits : w .faces ≤ placesO
 -- ---- a triangle of points
 pub linked-moved : {vs : List Float} {ws : List ℕ} (w r : Welder) → r .base ≡ w .base → r .count ≡ w .count → r .places ≡ w .places → r .ordered ≡ w .ordered → rowOf r ≡ rowOf w
     → Linked w vs ws → Linked r vs ws
-linked-moved w r b c p o k L = record { stored = rw (b, c, p) (L .stored); chained = rw (b, c, p, o) (L .chained); places = p ∙ L .places; rows = rw (b, c, o, k) (L .rows) }
+linked-moved w r b c p o k L = record { distinct = rw (b, c, p) (L .distinct); chained = rw (b, c, p, o) (L .chained); places = p ∙ L .places; rows = rw (b, c, o, k) (L .rows) }
 
 pub points-run : (a b c : Vec3) (st : Welder) (vs : List Float) (ts ws : List ℕ) (u : Welded) (vs₁ : List Float) (ws₁ : List ℕ) (v : Welded) (vs₂ : List Float)
     (ws₂ : List ℕ) (w : Welded) (vs₃ : List Float) (ws₃ : List ℕ) (r : Welder) (ts′ : List ℕ)
@@ -194,7 +194,7 @@ points-run a b c st vs ts ws u vs₁ ws₁ v vs₂ ws₂ w vs₃ ws₃ r ts′ P
           (P₃ .rep D _ ts Q₂);
     }
 
--- ---- the cases of `weld_triangle`
+-- ---- the cases of `weld_triangle::weld_triangle`
 unfinished : (x y z : Bool) → (x ≡ false) ⊎ ((y ≡ false) ⊎ (z ≡ false)) → (x && y && z && true) ≡ false
 unfinished x y z (inl e) = rw e
 unfinished true y z (inr (inl e)) = rw e
@@ -213,7 +213,7 @@ pub triangle-stops : (w : Welder) (vs : List Float) (ts ws : List ℕ) (a b c : 
 unfolding everyFinite
 triangle-stops w vs ts ws a b c R n =
     record {
-      ready = record { linked = record { stored = R .linked .stored; chained = R .linked .chained; places = R .linked .places; rows = R .linked .rows }; faces = R .faces };
+      ready = record { linked = record { distinct = R .linked .distinct; chained = R .linked .chained; places = R .linked .places; rows = R .linked .rows }; faces = R .faces };
       vlong = refl;
       tlong = refl;
       wlong = refl;

@@ -1,2 +1,2 @@
--- What the contracts of `weld_triangle` cite.
+-- What the contracts of the crate `weld_triangle` cite.
 pub mod Steps

@@ -75,7 +75,7 @@ pub fn look_up(vertices: &mut [f64], work: &mut [u32], w: Welder, p: Vec3) -> We
     }
     let count = w.count;
     if count < w.places {
-        weld_vertex::place(vertices, count, p);
+        mesh_triples::put_vertex(vertices, count, p);
         return Welded {
             number: count,
             st: weld::grown(w, f),

@@ -9,7 +9,7 @@ use lib.Seq.{getD-set-same, getD-set-other}
 use lib.Ieee.{Float, nan}
 use Rattle.math.specs.declared.Vec3.{Vec3}
 use Rattle.mesh_spec.specs.Slices.{vertexAt}
-use Rattle.weld_vertex.specs.Points.{placed}
+use Rattle.mesh_triples.specs.Triples.{putVertex}
 
 pub apart : {A : Type 0} (l : List A) (i j : ℕ) (a d : A) → (j < i) ⊎ (i < j) → getD (set l i a) j d ≡ getD l j d
 apart l i j a d h = getD-set-other l i j a d (λ e. ⊎-elim (λ w. omega arith) (λ w. omega arith) h)
@@ -29,16 +29,16 @@ module _ {A : Type 0} (l : List A) (n : ℕ) (x y z d : A) where
   three-at2 : n + 3 ≤ length l → getD (set (set (set l n x) (n + 1) y) (n + 2) z) (n + 2) d ≡ z
   three-at2 h = getD-set-same (set (set l n x) (n + 1) y) (n + 2) z d (simp length-set (omega arith))
 
-pub placed-at : (vs : List Float) (m : ℕ) (p : Vec3) → 3 * m + 3 ≤ length vs → vertexAt (placed vs m p) m ≡ p
-placed-at vs m p h =
+pub put-at : (vs : List Float) (m : ℕ) (p : Vec3) → 3 * m + 3 ≤ length vs → vertexAt (putVertex vs m p) m ≡ p
+put-at vs m p h =
     λ i. record {
       x = three-at0 vs (3 * m) (p .x) (p .y) (p .z) nan h i;
       y = three-at1 vs (3 * m) (p .x) (p .y) (p .z) nan h i;
       z = three-at2 vs (3 * m) (p .x) (p .y) (p .z) nan h i;
     }
 
-before : (vs : List Float) (m : ℕ) (p : Vec3) (i : ℕ) → i < 3 * m → getD (placed vs m p) i nan ≡ getD vs i nan
+before : (vs : List Float) (m : ℕ) (p : Vec3) (i : ℕ) → i < 3 * m → getD (putVertex vs m p) i nan ≡ getD vs i nan
 before vs m p i h = three-before vs (3 * m) (p .x) (p .y) (p .z) nan i h
 
-pub placed-before : (vs : List Float) (m : ℕ) (p : Vec3) (k : ℕ) → k < m → vertexAt (placed vs m p) k ≡ vertexAt vs k
-placed-before vs m p k h = λ i. record { x = before vs m p (3 * k) (omega arith) i; y = before vs m p (3 * k + 1) (omega arith) i; z = before vs m p (3 * k + 2) (omega arith) i }
+pub put-before : (vs : List Float) (m : ℕ) (p : Vec3) (k : ℕ) → k < m → vertexAt (putVertex vs m p) k ≡ vertexAt vs k
+put-before vs m p k h = λ i. record { x = before vs m p (3 * k) (omega arith) i; y = before vs m p (3 * k + 1) (omega arith) i; z = before vs m p (3 * k + 2) (omega arith) i }

@@ -2,10 +2,9 @@
 use mathlib.Core.Path.{_≡_}
 use mathlib.Core.Bool.{Bool, not, _&&_}
 use mathlib.Core.List.{List}
-use Prim.Native.Nat.{ℕ, _+_, _*_}
-use lib.ListN.{getD, set}
+use Prim.Native.Nat.{ℕ}
 use lib.Dec.{T, ltb}
-use lib.Ieee.{Float, nan, fits, binary64}
+use lib.Ieee.{Float, fits, binary64}
 use lib.Ieee.Scale.{finite}
 use Rattle.ieee.specs.Same.{canon}
 use Rattle.math.specs.declared.Vec3.{Vec3}
@@ -23,10 +22,6 @@ pub record Clean (p : Vec3) : Type 0 where
   pub cx : CleanFloat (p .x)
   pub cy : CleanFloat (p .y)
   pub cz : CleanFloat (p .z)
-
--- a slice with p as vertex m
-abbrev pub placed : List Float → ℕ → Vec3 → List Float
-placed vs m p = set (set (set vs (3 * m) (p .x)) (3 * m + 1) (p .y)) (3 * m + 2) (p .z)
 
 -- vertex m is one from `base` below `count`, and equals p
 unfoldable pub isAt : List Float → ℕ → ℕ → Vec3 → ℕ → Bool

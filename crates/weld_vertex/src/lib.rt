@@ -1,10 +1,9 @@
-// The vertices of a lent slice, three floats each: reading and writing one, and comparing it with a point.
+// Points as the welder compares them, and a vertex of a lent slice compared with one.
 ghost use mathlib.Core.Path.{_≡_};
-ghost use Prim.Native.Nat.{_+_, _*_, _≤_};
+ghost use Prim.Native.Nat.{_*_, _≤_};
 ghost use lib.ListN.{length};
 ghost use Rattle.mesh_spec.specs.Mesh.{samePoint};
-ghost use Rattle.mesh_spec.specs.Slices.{vertexAt};
-ghost use Rattle.weld_vertex.specs.Points.{placed, isAt};
+ghost use Rattle.weld_vertex.specs.Points.{isAt};
 use math::Vec3;
 
 // Whether two points are equal as floats.
@@ -19,30 +18,6 @@ pub fn equal(a: Vec3, b: Vec3) -> bool
     false
 }
 
-// Vertex m.
-pub fn vertex(vertices: &[f64], m: usize) -> Vec3
-    requires { ⌜ 3 * m + 3 ≤ length (now vertices) ⌝ }
-    ensures { λ r. ⌜ r ≡ vertexAt (now (vertices .entry)) m ⌝ }
-{
-    let at = 3 * m;
-    Vec3 {
-        x: vertices[at],
-        y: vertices[at + 1],
-        z: vertices[at + 2],
-    }
-}
-
-// Writes a vertex.
-pub fn place(vertices: &mut [f64], m: usize, p: Vec3)
-    requires { ⌜ 3 * m + 3 ≤ length (now vertices) ⌝ }
-    ensures { λ _. ⌜ now (vertices .exit) ≡ placed (now (vertices .entry)) m p ⌝ }
-{
-    let at = 3 * m;
-    vertices[at] = p.x;
-    vertices[at + 1] = p.y;
-    vertices[at + 2] = p.z;
-}
-
 // Whether vertex m is one from `base` below `count` and equals p.
 pub fn is_at(vertices: &[f64], base: usize, count: usize, m: usize, p: Vec3) -> bool
     requires { ⌜ 3 * count ≤ length (now vertices) ⌝ }
@@ -54,5 +29,5 @@ pub fn is_at(vertices: &[f64], base: usize, count: usize, m: usize, p: Vec3) -> 
     if count <= m {
         return false;
     }
-    equal(vertex(vertices, m), p)
+    equal(mesh_triples::vertex(vertices, m), p)
 }

@@ -28,10 +28,7 @@ same-length-3 : tie.Need-same-length-3
 same-length-3 c = search needs
 
 returns : tie.Need-returns
-returns c =
-    let c6 = c .before .before .before .before .before .before in
-    let c10 = c6 .before .before .before .before in
-    record { vertices = c10 .clear-floats .ensures; triangles = c6 .clear-numbers .ensures; work = c .before .before .clear-numbers2 .ensures }
+returns c = record { vertices = search needs; triangles = search needs; work = search needs }
 
 pub keep-spec : {M : Type 1} → statement M
 keep-spec =

@@ -4,7 +4,7 @@ use Rattle.weld.proofs.new_part.Statement.{statement}
 use Rattle.weld.proofs.new_part.Tie as tie
 
 returns : tie.Need-returns
-returns c = parted (c .args .w) (record { near = _; rising = _ }) _
+returns c = parted (c .args .w)
 
 pub new-part-spec : {M : Type 1} → statement M
 new-part-spec = tie.close (tie.spec returns)

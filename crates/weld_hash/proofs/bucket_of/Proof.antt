@@ -7,15 +7,15 @@ use native.Mathlib.Omega.{arith}
 use mir.Val.{Fits}
 use mir.Syntax.{w64}
 use Rattle.ieee.specs.Same.{finite-not-nan}
-use Rattle.weld_hash.specs.Hash.{spreadOf, middleOf, sumOf, bucketOf}
+use Rattle.weld_hash.specs.Hash.{spreadOf, middleOf, foldOf, bucketOf}
 use Rattle.weld_hash.proofs.bucket_of.Statement.{statement}
 use Rattle.weld_hash.proofs.bucket_of.Tie as tie
 
 scaled : (x n : ℕ) → x < 2 ^ 32 → n < 2 ^ 32 → Fits w64 (x * n)
 scaled x n p q = let s : x * n ≤ 4294967295 * n = mul-le-mul-right n (omega arith) in omega arith
 
-within : (x n : ℕ) → x < 2 ^ 32 → 0 < n → x * n / 4294967296 < n
-within x n p q = let s : x * n ≤ 4294967295 * n = mul-le-mul-right n (omega arith) in omega arith
+below : (x n : ℕ) → x < 2 ^ 32 → 0 < n → x * n / 4294967296 < n
+below x n p q = let s : x * n ≤ 4294967295 * n = mul-le-mul-right n (omega arith) in omega arith
 
 float-to-bits-spread : tie.Need-float-to-bits-spread
 float-to-bits-spread c = finite-not-nan _ (c .before .pre .2 .cx .finitely)
@@ -51,14 +51,14 @@ mul-result : tie.Need-mul-result
 mul-result c = scaled _ _ (c .middle .ensures .1) (c .before .before .before .before .before .before .before .before .pre .1)
 
 returns : tie.Need-returns
-unfolding bucketOf sumOf
+unfolding bucketOf foldOf
 returns c =
     let s = c .before .before .before .before .before .before .before .before in
     let x = c .before .before .before .before .before .before .spread in
     let y = c .before .before .before .before .spread2 in
     let z = c .before .before .spread3 in
     let sum = c .before .spread4 .ensures .0 ∙ (λ i. spreadOf (x .ensures .0 i + y .ensures .0 i + z .ensures .0 i) 1721092421 1) in
-    (ap (λ (n : ℕ). n * s .args .places / 4294967296) (c .middle .ensures .0 ∙ ap middleOf sum), within _ _ (c .middle .ensures .1) (s .pre .0))
+    (ap (λ (n : ℕ). n * s .args .places / 4294967296) (c .middle .ensures .0 ∙ ap middleOf sum), below _ _ (c .middle .ensures .1) (s .pre .0))
 
 pub bucket-of-spec : {M : Type 1} → statement M
 bucket-of-spec =

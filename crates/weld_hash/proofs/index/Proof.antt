@@ -6,33 +6,33 @@ use denote.Ref.{now}
 use Prim.Native.Nat.{ℕ, _-_, _≤_}
 use lib.ListN.{length, length-set}
 use Rattle.weld_vertex.specs.Points.{Clean}
-use Rattle.weld_hash.specs.Hash.{bucketOf, Chained}
-use Rattle.weld_hash.proofs.Chains.{chained-next}
+use Rattle.weld_hash.specs.Hash.{bucketOf, Indexed}
+use Rattle.weld_hash.proofs.Chains.{chained-next, indexed-next}
 use Rattle.weld_hash.proofs.index.Statement.{statement}
 use Rattle.weld_hash.proofs.index.Tie as tie
 
 abbrev Inv-loop : tie.InvT-loop
-Inv-loop vertices work₀ places base count m₀ work m = (base ≤ m) × (m ≤ count) × (length work ≡ length work₀) × Chained vertices work places base m
+Inv-loop vertices work₀ places base count m₀ work m = (base ≤ m) × (m ≤ count) × (length work ≡ length work₀) × Indexed vertices work₀ places base m work
 
 abbrev μ-loop : tie.MeasureT-loop
 μ-loop vertices work₀ places base count m₀ work m = count - m
 
 loop-holds : tie.Need-loop-holds Inv-loop μ-loop
-loop-holds c = let s = c .before .before in (omega arith, s .pre .0 .based, refl, s .pre .2)
+loop-holds c = let s = c .before .before in (omega arith, s .pre .0 .based, refl, record { chained = s .pre .2; beyond = refl })
 
 vertex-requires : tie.Need-vertex-requires Inv-loop μ-loop
-vertex-requires c κs = let s = c .before .before .before .before .before in omega (arith, s .pre .0 .room, s .pre .0 .within, c .before .loop-test .taken)
+vertex-requires c κs = let s = c .before .before .before .before .before in omega (arith, s .pre .0 .room, s .pre .0 .fits, c .before .loop-test .taken)
 
 bucket-of-requires : tie.Need-bucket-of-requires Inv-loop μ-loop
 bucket-of-requires c κs =
     let s = c .before .before .before .before .before .before in
     let t = c .before .before .loop-test .taken in
-    (omega (arith, s .pre .0 .within, t), s .pre .1, subst Clean (sym (c .vertex .ensures)) (s .pre .0 .clean _ t))
+    (omega (arith, s .pre .0 .fits, t), s .pre .1, subst Clean (sym (c .vertex .ensures)) (s .pre .0 .clean _ t))
 
 link-requires : tie.Need-link-requires Inv-loop μ-loop
 link-requires c κs =
     let s = c .before .before .before .before .before .before .before in
-    (c .before .before .before .before .loop .inv .3 .links, omega (arith, s .pre .0 .within, c .before .before .before .loop-test .taken), c .bucket-of .ensures .1, s .pre .1)
+    (c .before .before .before .before .loop .inv .3 .chained .links, omega (arith, s .pre .0 .fits, c .before .before .before .loop-test .taken), c .bucket-of .ensures .1, s .pre .1)
 
 add-m : tie.Need-add-m Inv-loop μ-loop
 add-m c = search needs
@@ -49,8 +49,8 @@ loop-again c =
       omega (arith, i .0),
       omega (arith, t),
       c .before .before .link .kept .0 ∙ i .2,
-      rw (c .before .before .link .ensures)
-          (chained-next (now (s .args .vertices)) _ (s .args .places) (s .args .base) (c .before .before .before .before .before .before .before .loop .m) (i .3) (omega (arith, s .pre .0 .within, t)) (b .result)
+      indexed-next (b .result) (i .3) (omega (arith, s .pre .0 .fits, t)) (b .ensures .1) (c .before .before .link .ensures)
+          (chained-next (now (s .args .vertices)) _ (s .args .places) (s .args .base) (c .before .before .before .before .before .before .before .loop .m) (i .3 .chained) (omega (arith, s .pre .0 .fits, t)) (b .result)
           (b .ensures .0 ∙ ap (bucketOf (s .args .places)) (c .before .before .before .before .vertex .ensures)) (b .ensures .1)),
     )
 
@@ -61,7 +61,7 @@ returns : tie.Need-returns Inv-loop μ-loop
 returns c =
     let s = c .before .before .before .before in
     let m = c .before .loop .m in
-    subst (λ (n : ℕ). Chained (now (s .args .vertices)) (c .before .loop .work) (s .args .places) (s .args .base) n) (omega (arith, c .before .loop .inv .1, c .loop-test .left)) (c .before .loop .inv .3)
+    subst (λ (n : ℕ). Indexed (now (s .args .vertices)) (now (s .args .work)) (s .args .places) (s .args .base) n (c .before .loop .work)) (omega (arith, c .before .loop .inv .1, c .loop-test .left)) (c .before .loop .inv .3)
 
 pub index-spec : {M : Type 1} → statement M
 index-spec =

@@ -17,8 +17,8 @@ enum-known-found c = search needs
 enum-told : tie.Need-enum-told
 enum-told c = search needs
 
-place-requires : tie.Need-place-requires
-place-requires c κs = search needs
+put-vertex-requires : tie.Need-put-vertex-requires
+put-vertex-requires c κs = search needs
 
 link-requires : tie.Need-link-requires
 link-requires c κs = search needs
@@ -47,7 +47,7 @@ returns-2 : tie.Need-returns-2
 returns-2 c =
     let s = c .before .before .before .before .before .before .before .before .before .before .before .before .before .before .before .before .before in
     let b = c .before .before .before .before .before .before .before .before .before .before .before .before .before .before .bucket-of in
-    rw (c .before .before .before .before .before .before .place .ensures, c .before .before .link .ensures)
+    rw (c .before .before .before .before .before .before .put-vertex .ensures, c .before .before .link .ensures)
     (placing-new (s .args .places) (s .args .base) (s .args .count) (s .args .p) (now (s .args .vertices)) (now (s .args .work)) (b .result) (b .ensures .0) (b .ensures .1) (told (now (s .args .vertices)) (s .args .base) (s .args .count) (s .args .p) (c .before .before .before .before .before .before .before .before .before .enum-told .given .1) (c .before .before .before .before .before .before .before .before .before .before .before .find .ensures)) (c .before .before .before .before .before .before .before .before .if1 .taken))
 
 same-length-5 : tie.Need-same-length-5
@@ -69,7 +69,7 @@ number-of-spec =
     find-requires
     enum-known-found
     enum-told
-    place-requires
+    put-vertex-requires
     link-requires
     add-result
     same-length

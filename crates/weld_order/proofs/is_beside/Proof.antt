@@ -1,5 +1,5 @@
 -- `weld_order::is_beside` meets its contract: a case for each way through. Assumes nothing.
-use Rattle.weld_order.proofs.Within.{rising-near, rising-far, falling-right, falling-left}
+use Rattle.weld_order.proofs.Among.{rising-near, rising-far, falling-right, falling-left}
 use Rattle.weld_order.proofs.is_beside.Statement.{statement}
 use Rattle.weld_order.proofs.is_beside.Tie as tie
 

@@ -6,7 +6,7 @@ use Prim.Native.Nat.{ℕ, _-_, _/_, _≤_, zero-le}
 use lib.ListN.{length}
 use Rattle.weld.specs.Rep.{held}
 use Rattle.solid_spec.specs.Boxes.{parts}
-use Rattle.solid_parts.specs.Parts.{PartsRun}
+use Rattle.weld.specs.Parts.{PartsRun}
 use Rattle.solid_parts.proofs.PartRuns.{jointAt, joints-all, loop-none, loop-more}
 use Rattle.solid_parts.proofs.wire.weld_joints.Statement.{statement}
 use Rattle.solid_parts.proofs.wire.weld_joints.Tie as tie

@@ -3,8 +3,8 @@ use mathlib.Core.Path.{_≡_, sym, ap, _∙_}
 use mathlib.Core.Bool.{Bool}
 use denote.Ref.{now}
 use Rattle.mesh_check.specs.State.{State, state, meshOf, stored}
-use Rattle.tessellate_place.specs.Ends.{turned}
-use Rattle.tessellate_place.proofs.Lying.{stored-self}
+use Rattle.tessellate_spec.specs.Solid.{outwardIf}
+use Rattle.mesh_check.proofs.Lying.{stored-self}
 use borrow.Author.Needs.{needs}
 use Rattle.tessellate_place.proofs.turn.turn_rotated.Statement.{statement}
 use Rattle.tessellate_place.proofs.turn.turn_rotated.Tie as tie
@@ -21,7 +21,7 @@ returns c =
     let a = c4 .before .before .before .args in
     let s = state (a .counts) (now (a .vertices)) (now (a .triangles)) in
     c .before .before .turn-outward .ensures
-    ∙ sym (ap {B = State} (λ (b : Bool). stored (turned b (meshOf s)) s) (c4 .if1 .taken))
+    ∙ sym (ap {B = State} (λ (b : Bool). stored (outwardIf b (meshOf s)) s) (c4 .if1 .taken))
 
 returns-2 : tie.Need-returns-2
 returns-2 c =
@@ -29,7 +29,7 @@ returns-2 c =
     let a = c3 .args in
     let s = state (a .counts) (now (a .vertices)) (now (a .triangles)) in
     stored-self s (c3 .pre)
-    ∙ sym (ap {B = State} (λ (b : Bool). stored (turned b (meshOf s)) s) (c .if1 .left))
+    ∙ sym (ap {B = State} (λ (b : Bool). stored (outwardIf b (meshOf s)) s) (c .if1 .left))
 
 pub turn-rotated-spec : {M : Type 1} → statement M
 turn-rotated-spec = tie.close (tie.spec turn-outward-requires same-length returns returns-2)

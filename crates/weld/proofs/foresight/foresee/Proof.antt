@@ -2,7 +2,13 @@
 use borrow.Author.Needs.{needs}
 use native.Mathlib.Omega.{arith}
 use denote.Ref.{now}
-use Rattle.weld.proofs.InRows.{not-seen, first-seen}
+use mathlib.Core.Path.{_≡_, sym, ap, _∙_, subst}
+use mathlib.Core.Bool.{true}
+use Prim.Native.Nat.{_<_}
+use Rattle.weld_order.specs.declared.Row.{Row}
+use Rattle.weld_order.specs.Rows.{among}
+use Rattle.weld.specs.States.{freshIn, Foresees}
+use Rattle.weld.proofs.InRows.{answer-loose, not-seen, first-seen}
 use Rattle.weld.proofs.foresight.foresee.Statement.{statement}
 use Rattle.weld.proofs.foresight.foresee.Tie as tie
 
@@ -15,7 +21,10 @@ fresh-requires c κs = search needs
 returns : tie.Need-returns
 returns c =
     let s = c .before .before .before .before .before in
-    rw (c .fresh .ensures) (first-seen (s .args .w) (now (s .args .vertices)) (s .args .p) (c .before .first-row .result) (c .before .before .if1 .taken) (c .before .first-row .ensures))
+    let a = s .args in
+    let r = c .before .first-row in
+    subst (Foresees (a .w) (now (a .vertices)) (a .p)) (sym (c .fresh .ensures ∙ ap freshIn (r .ensures .0)))
+    (first-seen (a .w) (now (a .vertices)) (a .p) (c .before .before .if1 .taken) (subst (λ (x : Row). among x (a .p) (a .p) ≡ true) (r .ensures .0) (r .ensures .1)))
 
 from-last-requires : tie.Need-from-last-requires
 from-last-requires c κs = search needs
@@ -27,7 +36,12 @@ unknown-requires : tie.Need-unknown-requires
 unknown-requires c κs = search needs
 
 returns-3 : tie.Need-returns-3
-returns-3 c = let s = c .before .before .before .before .before in not-seen (s .args .w) (now (s .args .vertices)) (s .args .p) (c .unknown .result) (c .unknown .ensures) (omega (arith, s .pre .0 .based, c .before .before .if1 .left))
+returns-3 c =
+    let s = c .before .before .before .before .before in
+    let a = s .args in
+    let l : a .w .base < a .w .count = omega (arith, s .pre .0 .based, c .before .before .if1 .left) in
+    subst (Foresees (a .w) (now (a .vertices)) (a .p)) (sym (c .unknown .ensures))
+    (not-seen (a .w) (now (a .vertices)) (a .p) (answer-loose (a .w) (now (a .vertices)) (a .p) l (c .before .if2 .left)) l)
 
 pub foresee-spec : {M : Type 1} → statement M
 foresee-spec =

@@ -15,8 +15,8 @@ number-of-requires c κs =
     let s = c .before .before .before .before in
     let w = s .args .w in
     let L = s .pre .0 in (
-      (L .stored, subst (Chained (now (s .args .vertices)) (now (s .args .work)) (w .places) (w .base)) (ap (λ (t : Bool). cond t (w .base) (w .count)) (s .pre .4)) (L .chained)),
-      (omega (arith, s .pre .3, L .stored .within), omega (arith, places-limit (now (s .args .vertices)), L .places), s .pre .1),
+      (L .distinct, subst (Chained (now (s .args .vertices)) (now (s .args .work)) (w .places) (w .base)) (ap (λ (t : Bool). cond t (w .base) (w .count)) (s .pre .4)) (L .chained)),
+      (omega (arith, s .pre .3, L .distinct .fits), omega (arith, places-limit (now (s .args .vertices)), L .places), s .pre .1),
     )
 
 same-length : tie.Need-same-length
@@ -38,7 +38,7 @@ unknown-requires c κs = search needs
 grown-requires : tie.Need-grown-requires
 grown-requires c κs =
     let s = c .before .before .before .before .before .before .before .before .before .before .before .before in
-    omega (arith, places-limit (now (s .args .vertices)), s .pre .0 .places, s .pre .0 .stored .within)
+    omega (arith, places-limit (now (s .args .vertices)), s .pre .0 .places, s .pre .0 .distinct .fits)
 
 same-length-3 : tie.Need-same-length-3
 same-length-3 c = search needs
@@ -52,7 +52,7 @@ returns-2 c =
     let u = c .before .unknown in
     let n = c .before .before .before .before .before .before .before .before .number-of .ensures .new (c .before .before .if2 .taken) in
     rw (n .3, n .4, c .before .before .if2 .taken, c .grown .ensures)
-    (point-new (s .args .w) (now (s .args .vertices)) (now (s .args .work)) (s .pre .0) (s .args .p) (u .result) (u .ensures) (s .pre .4) (s .pre .1) _ refl (n .2) (s .pre .2) (n .0) (n .1))
+    (point-new (s .args .w) (now (s .args .vertices)) (now (s .args .work)) (s .pre .0) (s .args .p) (u .result) (λ j. u .ensures j .fresh) (s .pre .4) (s .pre .1) _ refl (n .2) (s .pre .2) (n .0) (n .1))
 
 full-requires : tie.Need-full-requires
 full-requires c κs = search needs

@@ -16,7 +16,7 @@ index-requires c κs =
     let s = c .before .before .before .before in
     let w = s .args .w in
     let L = s .pre in (
-      L .stored,
+      L .distinct,
       omega (arith, places-limit (now (s .args .vertices)), L .places),
       subst (Chained (now (s .args .vertices)) (now (s .args .work)) (w .places) (w .base)) (ap (λ (t : Bool). cond t (w .base) (w .count)) (c .before .if1 .taken)) (L .chained),
     )
@@ -30,7 +30,7 @@ same-length c = search needs
 returns : tie.Need-returns
 returns c =
     let s = c .before .before .before .before .before .before .before .before in
-    (c .settled .ensures, linked-settled (s .args .w) (now (s .args .vertices)) (now (s .args .work)) _ (s .pre) (c .before .before .before .index .ensures))
+    (c .settled .ensures, linked-settled (s .args .w) (now (s .args .vertices)) (now (s .args .work)) _ (s .pre) (c .before .before .before .index .ensures .chained))
 
 settled-requires-2 : tie.Need-settled-requires-2
 settled-requires-2 c κs = search needs

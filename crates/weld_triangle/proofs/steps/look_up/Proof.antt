@@ -30,13 +30,13 @@ same-length-2 c = search needs
 returns-2 : tie.Need-returns-2
 returns-2 c = search needs
 
-place-requires : tie.Need-place-requires
-place-requires c κs = search needs
+put-vertex-requires : tie.Need-put-vertex-requires
+put-vertex-requires c κs = search needs
 
 grown-requires : tie.Need-grown-requires
 grown-requires c κs =
     let s = c .before .before .before .before .before .before .before .before .before .before .before .before in
-    omega (arith, places-limit (now (s .args .vertices)), s .pre .0 .places, s .pre .0 .stored .within)
+    omega (arith, places-limit (now (s .args .vertices)), s .pre .0 .places, s .pre .0 .distinct .fits)
 
 same-length-3 : tie.Need-same-length-3
 same-length-3 c = search needs
@@ -45,7 +45,7 @@ returns-3 : tie.Need-returns-3
 returns-3 c =
     let s = c .before .before .before .before .before .before .before .before .before .before .before .before .before in
     let f = c .before .before .before .before .before .before .before .before .foresee in
-    rw (c .before .before .before .place .ensures, c .grown .ensures)
+    rw (c .before .before .before .put-vertex .ensures, c .grown .ensures)
     (point-fresh (s .args .w) (now (s .args .vertices)) (now (s .args .work)) (s .pre .0) (s .args .p) (f .result) (f .ensures) (not-false _ (c .before .before .before .before .before .before .before .if2 .left)) (s .pre .1) (not-false _ (c .before .before .before .before .before .before .before .before .before .before .if1 .left)) (c .before .before .before .before .before .if3 .taken))
 
 full-requires : tie.Need-full-requires
@@ -70,7 +70,7 @@ look-up-spec =
     same-length
     same-length-2
     returns-2
-    place-requires
+    put-vertex-requires
     grown-requires
     same-length-3
     returns-3

@@ -25,7 +25,7 @@ returns-2 c =
     let s = c .before .before .before .before .before .before in
     let e = at-yes (now (s .args .vertices)) (s .args .w .base) (s .args .w .count) (s .args .p) (s .args .guess) (sym (c .before .is-at .ensures) ∙ c .if2 .taken) in
     point-at (s .args .w) (now (s .args .vertices)) (now (s .args .work)) (s .pre .0) (s .args .p) (s .args .guess) (not-false _ (c .before .before .before .if1 .left))
-    (first-at (now (s .args .vertices)) (s .args .w .places) (s .args .w .base) (s .args .w .count) (s .pre .0 .stored) (s .args .p)
+    (first-at (now (s .args .vertices)) (s .args .w .places) (s .args .w .base) (s .args .w .count) (s .pre .0 .distinct) (s .args .p)
     (s .pre .1) (s .args .guess) (e .0) (e .1) (e .2))
 
 look-up-requires : tie.Need-look-up-requires
