@@ -4,7 +4,7 @@ use mathlib.Core.Path.{_≡_, refl, sym, ap, _∙_}
 use mathlib.Core.Bool.{Bool, true, false, cond, not, _&&_, _||_, and-true, and-false}
 use mathlib.Core.List.{List}
 use native.Mathlib.Numerals.{add-one}
-use native.Mathlib.Nat.{mod-lt, sub-zero}
+use native.Mathlib.Nat.{mod-lt, mod-self, mod-eq-of-lt, add-mod-left, sub-zero}
 use native.Mathlib.Omega.{arith}
 use lib.ListN.{length, getD, take, drop, drop-of-length-le}
 use lib.Seq.{drop-cons, getD-take, length-take-le}
@@ -19,6 +19,22 @@ use Rattle.outline_ears.specs.Inside.{Inside}
 use Rattle.outline_ears.specs.declared.Ear.{Ear}
 use Rattle.outline_ears.specs.declared.Found.{Found}
 use Rattle.outline_ears.specs.declared.Found.the-variants.{At, Nothing}
+
+-- ---- the indices beside k, with no division
+
+pub previous-of-first : (k n : ℕ) → k < n → k ≡ 0 → n - 1 ≡ (k + n - 1) % n
+previous-of-first k n h e = let s : k + n - 1 ≡ n - 1 = omega arith in sym (ap (λ (x : ℕ). x % n) s ∙ mod-eq-of-lt (omega arith))
+
+pub previous-of-later : (k n : ℕ) → k < n → 0 < k → k - 1 ≡ (k + n - 1) % n
+previous-of-later k n h o =
+    let s : k + n - 1 ≡ n + (k - 1) = omega arith in
+    sym (ap (λ (x : ℕ). x % n) s ∙ add-mod-left n (k - 1) ∙ mod-eq-of-lt (omega arith))
+
+pub next-of-last : (k n : ℕ) → k + 1 ≡ n → 0 ≡ (k + 1) % n
+next-of-last k n e = sym (ap (λ (x : ℕ). x % n) e ∙ mod-self n)
+
+pub next-of-earlier : (k n : ℕ) → k + 1 < n → k + 1 ≡ (k + 1) % n
+next-of-earlier k n h = sym (mod-eq-of-lt h)
 
 -- ---- the largest absolute value of a coordinate
 
@@ -162,10 +178,11 @@ module _ (v : List Float) (idx : List ℕ) (n : ℕ) (s : Inside v idx n) where
   unfolding inx
   inx-is k h = rw idx-length (idx-at ((k + 1) % n) (mod-lt _ (omega arith)))
 
-  pub ear-is : (k : ℕ) → k < n → {a b c : Point} → a ≡ point v (getD idx ((k + n - 1) % n) 0) → b ≡ point v (getD idx k 0) → c ≡ point v (getD idx ((k + 1) % n) 0)
-      → _≡_ {A = Ear} (record { ip = getD idx ((k + n - 1) % n) 0; ic = getD idx k 0; inx = getD idx ((k + 1) % n) 0; a = a; b = b; c = c }) (earAt v (take n idx) k)
+  pub ear-is : (k : ℕ) → k < n → {p q : ℕ} → p ≡ (k + n - 1) % n → q ≡ (k + 1) % n → {a b c : Point} → a ≡ point v (getD idx p 0) → b ≡ point v (getD idx k 0)
+      → c ≡ point v (getD idx q 0)
+      → _≡_ {A = Ear} (record { ip = getD idx p 0; ic = getD idx k 0; inx = getD idx q 0; a = a; b = b; c = c }) (earAt v (take n idx) k)
   unfolding earAt
-  ear-is k h ha hb hc = rw (ip-is k h, idx-at k h, inx-is k h, ha, hb, hc)
+  ear-is k h hp hq ha hb hc = rw (ip-is k h, idx-at k h, inx-is k h, ha, hb, hc, hp, hq)
 
   -- the number at index q passes the test, or it does not and the search goes on
   module _ (p : ℕ → Bool) (q : ℕ) where

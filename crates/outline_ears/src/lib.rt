@@ -2,7 +2,7 @@
 // corners that remain, is the first m numbers of the array idx.
 use outline::Point;
 ghost use mathlib.Core.Path.{_≡_};
-ghost use Prim.Native.Nat.{_+_, _*_, _<_};
+ghost use Prim.Native.Nat.{_+_, _-_, _*_, _%_, _<_, _≤_};
 ghost use lib.ListN.{length, take};
 ghost use Rattle.outline.specs.Corners.{point};
 ghost use Rattle.outline_ears.specs.Ears.{cross as cross·, tolerance as tolerance·, inTriangle, blocks as blocks·, blocked as blocked·};
@@ -114,14 +114,36 @@ fn blocked(v: &[f64], eps: f64, t: Ear, idx: &[u32; 512], m: usize) -> bool
     false
 }
 
+// The Rust's (k + m - 1) % m, with no division.
+fn previous(k: usize, m: usize) -> usize
+    requires { ⌜ (k < m) × (m ≤ 512) ⌝ }
+    ensures { λ r. ⌜ (r ≡ (k + m - 1) % m) × (r < m) ⌝ }
+{
+    if k == 0 {
+        return m - 1;
+    }
+    k - 1
+}
+
+// The Rust's (k + 1) % m, with no division.
+fn next(k: usize, m: usize) -> usize
+    requires { ⌜ (k < m) × (m ≤ 512) ⌝ }
+    ensures { λ r. ⌜ (r ≡ (k + 1) % m) × (r < m) ⌝ }
+{
+    if k + 1 == m {
+        return 0;
+    }
+    k + 1
+}
+
 // The corner at index k of idx and its neighbours there.
 pub fn ear_at(v: &[f64], idx: &[u32; 512], m: usize, k: usize) -> Ear
     requires { ⌜ (k < m) × Inside (now v) (now idx) m ⌝ }
     ensures { λ r. ⌜ r ≡ earAt (now (v .entry)) (take m (now (idx .entry))) k ⌝ }
 {
-    let ip = idx[(k + m - 1) % m];
+    let ip = idx[previous(k, m)];
     let ic = idx[k];
-    let inx = idx[(k + 1) % m];
+    let inx = idx[next(k, m)];
     Ear {
         ip: ip,
         ic: ic,
