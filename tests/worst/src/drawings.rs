@@ -1,6 +1,6 @@
 //! Drawings by number: the same seed and number make the same drawing.
 use crate::rng::Rng;
-use crate::{outlines, solids, soups};
+use crate::{outlines, solids, soup_count, soups};
 use sides::ours::Solid;
 
 /// What is drawn. A soup has nine floats a triangle.
@@ -19,35 +19,60 @@ pub struct Drawing {
 
 type Draw = fn(&mut Rng) -> (Input, String);
 
-/// A row of the report. `even`: no drawing may take more than ten medians a soup triangle. An outline of 512 corners is held to the Rust's
-/// time alone: its clipping takes time by the corners' order, whatever their numbers.
+/// What a row of the report is held to.
+#[derive(Clone, Copy, PartialEq)]
+pub enum Bars {
+    /// Never slower than the Rust, and never above ten medians a soup triangle.
+    Both,
+    /// Never slower than the Rust. How long clipping takes depends on the order of the corners, so outlines by themselves have no median.
+    Rust,
+    /// None: it is told how long a call takes.
+    None,
+}
+
+/// A row of the report.
 pub struct Kind {
     pub name: &'static str,
-    pub even: bool,
+    pub bars: Bars,
     draw: Draw,
 }
 
-const fn kind(name: &'static str, draw: Draw) -> Kind {
-    Kind { name, even: true, draw }
+const fn kind(name: &'static str, bars: Bars, draw: Draw) -> Kind {
+    Kind { name, bars, draw }
 }
 
 pub const KINDS: [Kind; 15] = [
-    kind("box", solids::a_box),
-    kind("box, cylindrical", solids::sector),
-    kind("multi-box", solids::multi_box),
-    kind("sphere", solids::sphere),
-    kind("spherical shell", solids::spherical_shell),
-    kind("cylinder", solids::cylinder),
-    kind("cylindrical shell", solids::cylindrical_shell),
-    kind("polygon", solids::polygon),
-    kind("extruded", solids::extruded),
-    kind("rotated", solids::rotated),
-    kind("wire", solids::wire),
-    kind("soup", soups::soup),
-    kind("soup, equal bits", soups::patterned),
-    Kind { name: "outline of 512 corners", even: false, draw: outlines::large },
-    Kind { name: "outline of 3 to 40 corners", even: false, draw: outlines::small },
+    kind("box", Bars::Both, solids::a_box),
+    kind("box, cylindrical", Bars::Both, solids::sector),
+    kind("multi-box", Bars::Both, solids::multi_box),
+    kind("sphere", Bars::Both, solids::sphere),
+    kind("spherical shell", Bars::Both, solids::spherical_shell),
+    kind("cylinder", Bars::Both, solids::cylinder),
+    kind("cylindrical shell", Bars::Both, solids::cylindrical_shell),
+    kind("polygon", Bars::Both, solids::polygon),
+    kind("extruded", Bars::Both, solids::extruded),
+    kind("rotated", Bars::Both, solids::rotated),
+    kind("wire", Bars::Both, solids::wire),
+    kind("soup", Bars::Both, soups::soup),
+    kind("soup, equal bits", Bars::Both, soups::patterned),
+    kind("outline of 512 corners", Bars::Rust, outlines::large),
+    kind("outline of 3 to 40 corners", Bars::None, outlines::small),
 ];
+
+/// The row of small outlines, drawn as such or rounded to so few corners.
+const SMALL: usize = 14;
+const SMALL_CORNERS: usize = 40;
+
+/// The drawings of all kinds that have no soup triangle, as a sphere of radius 0: the row after those of the kinds.
+pub const EMPTY: Kind = kind("no soup triangle", Bars::None, outlines::small);
+
+/// The row of a drawing.
+pub fn row(number: usize, input: &Input, triangles: usize) -> usize {
+    if triangles == 0 {
+        return KINDS.len();
+    }
+    if soup_count::has_few_corners(input, SMALL_CORNERS) { SMALL } else { number % KINDS.len() }
+}
 
 impl Drawing {
     pub fn random(seed: u64, number: usize) -> Drawing {

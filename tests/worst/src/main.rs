@@ -11,8 +11,8 @@ mod soup_count;
 mod soups;
 mod timing;
 
-use drawings::{Drawing, KINDS};
-use report::{Measured, Table};
+use drawings::{Drawing, EMPTY, KINDS};
+use report::Table;
 use timing::Ready;
 
 fn main() {
@@ -27,9 +27,9 @@ fn main() {
         let each = count as f64;
         println!("{}\t{:.1}\t{:.1}\t{:.2}", drawing.text(), times.ours / each, times.rust / each, times.ratio());
     }
-    let mut tables: Vec<Table> = KINDS.iter().map(|k| Table::new(k, seed)).collect();
+    let mut tables: Vec<Table> = KINDS.iter().chain([&EMPTY]).map(|k| Table::new(k, seed)).collect();
     for number in 0..n {
-        measure(&Drawing::random(seed, number), number, &mut tables[number % KINDS.len()]);
+        measure(seed, number, &mut tables);
     }
     if !report::print(&mut tables, n, seed) {
         std::process::exit(1);
@@ -37,16 +37,17 @@ fn main() {
 }
 
 /// Times a drawing once; a suspicious one again.
-fn measure(drawing: &Drawing, number: usize, table: &mut Table) {
-    let Some(mut ready) = Ready::new(drawing) else {
-        table.refused += 1;
+fn measure(seed: u64, number: usize, tables: &mut [Table]) {
+    let drawing = Drawing::random(seed, number);
+    let Some(mut ready) = Ready::new(&drawing) else {
+        tables[number % KINDS.len()].refused += 1;
         return;
     };
     let mut times = ready.times(1);
     if times.ratio() < timing::SUSPICIOUS {
         times = ready.times(timing::TURNS);
     }
-    table.rows.push(Measured::new(number, ready.triangles, &times));
+    tables[drawings::row(number, &drawing.input, ready.triangles)].push(number, ready.triangles, &times);
 }
 
 /// Times a drawing several times.

@@ -1,5 +1,5 @@
 //! The slowest drawings of each solid, and the bars.
-use crate::drawings::{Drawing, Kind};
+use crate::drawings::{Bars, Drawing, Kind};
 use crate::timing::{Ready, TURNS, Times};
 use sides::clock::median;
 
@@ -8,29 +8,32 @@ const MOST_MEDIANS: f64 = 10.0;
 
 /// A drawing by its number.
 #[derive(Clone, Copy)]
-pub struct Measured {
+struct Measured {
     number: usize,
-    /// Ours, a soup triangle; a call whose soup is empty counts as one.
+    /// Ours: ns a soup triangle; a call, where the row is not held to medians.
     ns: f64,
     ratio: f64,
-}
-
-impl Measured {
-    pub fn new(number: usize, triangles: usize, times: &Times) -> Measured {
-        Measured { number, ns: times.ours / triangles.max(1) as f64, ratio: times.ratio() }
-    }
 }
 
 pub struct Table {
     kind: &'static Kind,
     seed: u64,
     pub refused: usize,
-    pub rows: Vec<Measured>,
+    rows: Vec<Measured>,
 }
 
 impl Table {
     pub fn new(kind: &'static Kind, seed: u64) -> Table {
         Table { kind, seed, refused: 0, rows: Vec::new() }
+    }
+
+    fn measured(&self, number: usize, triangles: usize, times: &Times) -> Measured {
+        let by = if self.kind.bars == Bars::Both { triangles as f64 } else { 1.0 };
+        Measured { number, ns: times.ours / by, ratio: times.ratio() }
+    }
+
+    pub fn push(&mut self, number: usize, triangles: usize, times: &Times) {
+        self.rows.push(self.measured(number, triangles, times));
     }
 
     /// The first by an order, confirmed: what stands first is measured again until it stays there.
@@ -45,7 +48,7 @@ impl Table {
             confirmed.push(row.number);
             let drawing = Drawing::random(self.seed, row.number);
             let mut ready = Ready::new(&drawing).expect("it was accepted before");
-            self.rows[at] = Measured::new(row.number, ready.triangles, &ready.times(TURNS));
+            self.rows[at] = self.measured(row.number, ready.triangles, &ready.times(TURNS));
         }
     }
 }
@@ -54,33 +57,32 @@ impl Table {
 pub fn print(tables: &mut [Table], n: usize, seed: u64) -> bool {
     println!("\nsolid\tdrawings\trefused\tmedian ns a soup triangle\tworst\tworst / median\tleast Rust / ours");
     let (mut slower, mut uneven) = (Vec::new(), Vec::new());
-    let (mut most, mut least) = (None::<(f64, String)>, None::<(f64, String)>);
+    let (mut most, mut least) = (Vec::new(), Vec::new());
     for table in tables.iter_mut().filter(|t| !t.rows.is_empty()) {
-        let worst = table.first(|m| -m.ns);
-        let low = table.first(|m| m.ratio);
+        let (worst, low) = (table.first(|m| -m.ns), table.first(|m| m.ratio));
         let middle = median(table.rows.iter().map(|m| m.ns).collect());
-        let (name, times) = (table.kind.name, worst.ns / middle);
-        let (count, refused) = (table.rows.len(), table.refused);
-        println!("{name}\t{count}\t{refused}\t{middle:.1}\t{:.1}\t{times:.2}\t{:.2}", worst.ns, low.ratio);
+        let (name, bars) = (table.kind.name, table.kind.bars);
+        let (count, refused, times) = (table.rows.len(), table.refused, worst.ns / middle);
+        let unit = if bars == Bars::Both { "" } else { " a call" };
+        println!("{name}\t{count}\t{refused}\t{middle:.1}{unit}\t{:.1}\t{times:.2}\t{:.2}", worst.ns, low.ratio);
         let said = |m: Measured| format!("no. {}: {}", m.number, Drawing::random(seed, m.number).text());
         println!("  worst {}\n  least {}", said(worst), said(low));
-        if low.ratio < 1.0 {
-            slower.push(name);
+        if bars != Bars::None {
+            least.push((low.ratio, said(low)));
+            slower.extend((low.ratio < 1.0).then_some(name));
         }
-        if table.kind.even && times > MOST_MEDIANS {
-            uneven.push(name);
-        }
-        if table.kind.even && most.as_ref().is_none_or(|m| m.0 < worst.ns) {
-            most = Some((worst.ns, said(worst)));
-        }
-        if least.as_ref().is_none_or(|m| low.ratio < m.0) {
-            least = Some((low.ratio, said(low)));
+        if bars == Bars::Both {
+            most.push((worst.ns, said(worst)));
+            uneven.extend((times > MOST_MEDIANS).then_some(name));
         }
     }
-    let ((most, slowest), (least, closest)) = (most.unwrap_or_default(), least.unwrap_or_default());
-    println!(
-        "\nover all {n} drawings, seed {seed}:\nworst ns a soup triangle: {most:.1}, {slowest}\nleast Rust / ours: {least:.2}, {closest}"
-    );
+    println!("\nover all {n} drawings, seed {seed}, in the rows that are held to a bar:");
+    if let Some((ns, text)) = most.iter().max_by(|a, b| a.0.total_cmp(&b.0)) {
+        println!("worst ns a soup triangle: {ns:.1}, {text}");
+    }
+    if let Some((ratio, text)) = least.iter().min_by(|a, b| a.0.total_cmp(&b.0)) {
+        println!("least Rust / ours: {ratio:.2}, {text}");
+    }
     bar("never slower than the Rust", &slower) & bar("never above 10 medians of its solid a soup triangle", &uneven)
 }
 

@@ -2,7 +2,7 @@
 //! counted here. The time of a call is divided by it, since the flat ones take time too. A corner that the clipper removes without a triangle
 //! takes as much of its time as one with, so it counts as one.
 use crate::drawings::Input;
-use csx_plain::tessellate::shown::{arc_segments, ccw_polygon};
+use csx_plain::tessellate::shown::{arc_segments, ccw_polygon, clean_polygon};
 use sides::ours::Solid;
 use sides::rust::{corners, options, points};
 use std::f64::consts::TAU;
@@ -11,6 +11,16 @@ pub fn triangles(input: &Input) -> usize {
     match input {
         Input::Soup(list) => list.len() / 9,
         Input::Solid { solid, segments, rings } => solid_triangles(solid, *segments, *rings),
+    }
+}
+
+/// Whether a polygon or an extruded outline has at most so many corners, equal neighbours counted once.
+pub fn has_few_corners(input: &Input, most: usize) -> bool {
+    match input {
+        Input::Solid { solid: Solid::Polygon(_, _, list) | Solid::Extruded(_, _, _, list), .. } => {
+            clean_polygon(&corners(list)).len() <= most
+        }
+        _ => false,
     }
 }
 
