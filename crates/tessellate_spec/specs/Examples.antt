@@ -33,6 +33,7 @@ use Rattle.slice.specs.Every.{countedPlaces, every}
 use Rattle.mesh_spec.specs.Parts.{partsFinite}
 use Rattle.mesh_check.specs.State.{tooFewPlaces}
 use Rattle.mesh_made.specs.Made.{Lent, shortWork, Ending, refusedAs, acceptedAs, madeAs}
+use Rattle.shape.specs.Rotated.{isRotPoly}
 use Rattle.tessellate_spec.specs.Solid.{partsOf, solidMesh}
 use Rattle.tessellate_spec.specs.Outcome.{Job, jobParts, weldedMesh, placed, finalMesh, jobRefusal, badSoup, badPlaced}
 use Rattle.refusal.specs.Accepted.{orElse}
