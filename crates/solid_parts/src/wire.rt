@@ -138,21 +138,21 @@ fn weld_joints(
 {
     let mut st = w;
     let n = list.len() / 3;
-    let mut i = 0;
-    while i + 2 < n {
+    let mut j = 0;
+    while j + 2 < n {
         st = weld_joint_part(
             vertices,
             triangles,
             work,
             st,
             list,
-            i + 1,
+            j + 1,
             cylindrical,
             r,
             segments,
             rings,
         );
-        i += 1;
+        j += 1;
     }
     st
 }

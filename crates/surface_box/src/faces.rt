@@ -53,8 +53,9 @@ pub fn has_face(lo: Vec3, hi: Vec3, turns: bool, f: usize) -> bool
     if wraps(turns, k) {
         return false;
     }
+    let differ = math::axis(hi, k) != math::axis(lo, k);
     if f % 2 == 1 {
-        return math::axis(hi, k) != math::axis(lo, k);
+        return differ;
     }
     true
 }

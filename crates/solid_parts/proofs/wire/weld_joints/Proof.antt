@@ -12,11 +12,11 @@ use Rattle.solid_parts.proofs.wire.weld_joints.Statement.{statement}
 use Rattle.solid_parts.proofs.wire.weld_joints.Tie as tie
 
 abbrev Inv-loop : tie.InvT-loop
-Inv-loop vertices₀ triangles₀ work₀ list cylindrical r segments rings st₀ n i₀ vertices triangles work st i =
-    (i ≤ n - 2) × (n ≡ length list / 3) × PartsRun (parts i (jointAt cylindrical list segments r rings)) (held st₀ vertices₀ triangles₀ work₀) (held st vertices triangles work)
+Inv-loop vertices₀ triangles₀ work₀ list cylindrical r segments rings st₀ n j₀ vertices triangles work st j =
+    (j ≤ n - 2) × (n ≡ length list / 3) × PartsRun (parts j (jointAt cylindrical list segments r rings)) (held st₀ vertices₀ triangles₀ work₀) (held st vertices triangles work)
 
 abbrev μ-loop : tie.MeasureT-loop
-μ-loop vertices₀ triangles₀ work₀ list cylindrical r segments rings st₀ n i₀ vertices triangles work st i = n - i
+μ-loop vertices₀ triangles₀ work₀ list cylindrical r segments rings st₀ n j₀ vertices triangles work st j = n - j
 
 loop-holds : tie.Need-loop-holds Inv-loop μ-loop
 loop-holds c = let x = c .before .before .before .before in (
@@ -48,8 +48,8 @@ weld-joint-part-requires c κs = (
   ),
 )
 
-add-i : tie.Need-add-i Inv-loop μ-loop
-add-i c = omega (
+add-j : tie.Need-add-j Inv-loop μ-loop
+add-j c = omega (
   arith,
   c .before .before .before .before .before .before .before .before .before .before .loop-test .taken,
   c .before .before .before .before .before .before
@@ -65,7 +65,7 @@ loop-again c = let x = c .before .before .before .before .before .before .before
     let l = c .before .before .before .before .before .before .before .before .before .before .before .loop in (
       omega (arith, c .before .before .before .before .before .before .before .before .before .before .loop-test .taken),
       l .inv .1,
-      loop-more (jointAt (x .args .cylindrical) (now (x .args .list)) (x .args .segments) (x .args .r) (x .args .rings)) (l .i) _ _ _ (l .inv .2) (c .before .before .before
+      loop-more (jointAt (x .args .cylindrical) (now (x .args .list)) (x .args .segments) (x .args .r) (x .args .rings)) (l .j) _ _ _ (l .inv .2) (c .before .before .before
           .before .before .before .weld-joint-part .ensures),
     )
 
@@ -79,7 +79,7 @@ same-length-3 : tie.Need-same-length-3 Inv-loop μ-loop
 same-length-3 c = c .before .loop .inv .2 .wlong
 
 returns : tie.Need-returns Inv-loop μ-loop
-returns c = let l = c .before .loop in joints-all _ _ _ _ _ (l .i) _ _ (omega (arith, l .inv .0, l .inv .1, c .loop-test .left)) (l .inv .2)
+returns c = let l = c .before .loop in joints-all _ _ _ _ _ (l .j) _ _ (omega (arith, l .inv .0, l .inv .1, c .loop-test .left)) (l .inv .2)
 
 pub weld-joints-spec : {M : Type 1} → statement M
 weld-joints-spec =
@@ -91,7 +91,7 @@ weld-joints-spec =
     add-loop
     add-weld-joint-part
     weld-joint-part-requires
-    add-i
+    add-j
     loop-less
     loop-again
     same-length

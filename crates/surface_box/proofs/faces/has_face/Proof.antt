@@ -18,10 +18,10 @@ axis-requires-2 : tie.Need-axis-requires-2
 axis-requires-2 c κs = search needs
 
 returns-2 : tie.Need-returns-2
-returns-2 c = has-high _ _ _ _ _ _ (sym (c .before .before .before .if1 .left) ∙ c .before .before .before .before .wraps .ensures) (c .before .before .if2 .taken) (c .before .axis .ensures) (c .axis2 .ensures)
+returns-2 c = has-high _ _ _ _ _ _ (sym (c .before .before .before .if1 .left) ∙ c .before .before .before .before .wraps .ensures) (c .if2 .taken) (c .before .before .axis .ensures) (c .before .axis2 .ensures)
 
 returns-3 : tie.Need-returns-3
-returns-3 c = has-low _ _ _ _ (sym (c .before .if1 .left) ∙ c .before .before .wraps .ensures) (c .if2 .left)
+returns-3 c = has-low _ _ _ _ (sym (c .before .before .before .if1 .left) ∙ c .before .before .before .before .wraps .ensures) (c .if2 .left)
 
 pub has-face-spec : {M : Type 1} → statement M
 has-face-spec =
