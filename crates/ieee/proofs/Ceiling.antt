@@ -1,4 +1,5 @@
--- `ceil_to_usize`, by the ways through its tests: the float cut to a whole number and one comparison below 2 ^ 52, the cut alone up to 2 ^ 64, and the two ends. Assumes nothing.
+-- `ceil_to_usize`, by the ways through its tests: the float cut to a whole number and one comparison below 2 ^ 52, the cut alone up to 2 ^ 64, and the two
+-- ends. Assumes nothing.
 use mathlib.Core.Path.{_≡_, refl, sym, ap, _∙_, subst}
 use mathlib.Core.Logic.{inl}
 use Prim.Native.Nat.{ℕ, zero, suc, _+_, _-_, _*_, _/_, _^_, _≤_, _<_, min}

@@ -1,9 +1,11 @@
--- `nearest_whole` between -2 ^ 52 and 2 ^ 52: the float doubled is exact, and the whole part of it, plus 1, halved, is the nearest whole number. Assumes nothing.
+-- `nearest_whole` between -2 ^ 52 and 2 ^ 52: the float doubled is exact, and the whole part of it, plus 1, halved, is the nearest whole number. Assumes
+-- nothing.
 use mathlib.Core.Path.{_≡_, refl, sym, ap, _∙_, subst}
 use mathlib.Core.Logic.{_⊎_, inl, inr}
 use mathlib.Core.Bool.{Bool, true, false, not, _&&_, true≢false, false≢true}
 use Prim.Native.Nat.{ℕ, zero, _+_, _-_, _*_, _/_, _%_, _^_, _≤_, _<_}
-use native.Mathlib.Nat.{le-trans, le-of-eq, lt-of-lt-of-le, le-of-suc-le-suc, zero-lt-suc, zero-mul, mul-comm, mul-pos, mul-le-mul-right, add-div-right, div-div-eq-div-mul, div-lt-iff-lt-mul}
+use native.Mathlib.Nat.{le-trans, le-of-eq, lt-of-lt-of-le, le-of-suc-le-suc, zero-lt-suc, zero-mul, mul-comm, mul-pos, mul-le-mul-right, add-div-right}
+use native.Mathlib.Nat.{div-div-eq-div-mul, div-lt-iff-lt-mul}
 use native.Mathlib.Omega.{arith}
 use lib.IntN.{ℤ, pos, negℤ}
 use lib.Dec.{T, eqb, leb→le, ltb→lt, eqb→eq}

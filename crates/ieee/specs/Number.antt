@@ -1,5 +1,6 @@
 -- Numbers in binary64: which number is a zero, when two floats are the same number, and what the functions of src/lib.rt return.
--- `Float` is lib.Ieee's: `nan`, `inf s`, or `fin s m e`, which is m * 2 ^ e, that is m * up e / down e, negative where s is true. Zero is m = 0 and keeps its sign.
+-- `Float` is lib.Ieee's: `nan`, `inf s`, or `fin s m e`, which is m * 2 ^ e, that is m * up e / down e, negative where s is true.
+-- Zero is m = 0 and keeps its sign.
 -- f64::is_finite is lib.Ieee.Scale's `finite`: true of every number, zeros of both signs too, and false of a NaN and of the two infinities.
 use mathlib.Core.Path.{_≡_}
 use mathlib.Core.Logic.{_⊎_}
@@ -45,7 +46,8 @@ absolute nan = nan
 absolute (inf s) = inf false
 absolute (fin s m e) = fin false m e
 
--- y.ceil() as usize, on 64 bits: the least whole number that is no smaller than y, and at most 2 ^ 64 - 1. A NaN, a zero of either sign and what is below zero give 0
+-- y.ceil() as usize, on 64 bits: the least whole number that is no smaller than y, and at most 2 ^ 64 - 1.
+-- A NaN, a zero of either sign and what is below zero give 0
 unfoldable pub ceiling : Float → ℕ
 ceiling nan = 0
 ceiling (inf s) = cond s 0 (2 ^ 64 - 1)

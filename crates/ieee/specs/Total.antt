@@ -1,4 +1,5 @@
--- The order of the floats that are no NaN is total. `minimum` is the least and `maximum` the greatest of two such floats; where one is a NaN, each is the other. Assumes nothing.
+-- The order of the floats that are no NaN is total. `minimum` is the least and `maximum` the greatest of two such floats; where one is a NaN, each is the
+-- other. Assumes nothing.
 use mathlib.Core.Path.{_≡_, refl, sym, _∙_}
 use mathlib.Core.Logic.{_⊎_, inl, inr}
 use Prim.Native.Nat.{ℕ, _+_, _*_, _≤_}

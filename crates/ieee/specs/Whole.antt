@@ -28,7 +28,7 @@ nearestWhole nan = pos 0
 nearestWhole (inf s) = pos 0
 nearestWhole (fin s m e) = signed s (halfUp (m * up e) (down e))
 
--- "q mod 4 is never negative": i64::rem_euclid(4)
+-- docs/SCOPE.md T2, q mod 4: i64::rem_euclid(4)
 unfoldable pub mod4 : ℤ → ℕ
 mod4 (pos n) = n % 4
 mod4 (negsuc n) = 3 - n % 4

@@ -1,4 +1,5 @@
--- A zero as an operand: `Same` as an equation of what `canon` makes, `round` of 0, sums and products commute, and no operation sees which zero it is given, but for the sign of a zero result.
+-- A zero as an operand: `Same` as an equation of what `canon` makes, `round` of 0, sums and products commute, and no operation sees which zero it is given, but
+-- for the sign of a zero result.
 -- Assumes nothing.
 use mathlib.Core.Path.{_≡_, refl, sym, ap, _∙_, subst}
 use mathlib.Core.Logic.{_⊎_, inl, inr}

@@ -1,9 +1,10 @@
 -- The numbers of docs/SCOPE.md, "Refusals". Assumes nothing.
 use Prim.Native.Nat.{ℕ}
 use Rattle.refusal.specs.declared.Refusal.{Refusal}
-use Rattle.refusal.specs.declared.Refusal.the-variants.{Accepted, NotFinite, AngleTooLarge, TooManySegments, BadList, PointNotFinite, ShortWork, NoRoom, BadMesh}
+use Rattle.refusal.specs.declared.Refusal.the-variants.{Accepted, NotFinite, AngleTooLarge, TooManySegments, BadList, PointNotFinite, ShortWork, NoRoom}
+use Rattle.refusal.specs.declared.Refusal.the-variants.{BadMesh}
 
--- 1 to 5 are told to the drawing, 6 to 8 to the lending program; 0 is no refusal
+-- 1 to 5 are of what is drawn, 6 to 8 of the slices that are lent; 0 is no refusal
 abbrev pub numberOf : Refusal → ℕ
 numberOf Accepted = 0
 numberOf NotFinite = 1

@@ -1,4 +1,4 @@
-// Who is told no (docs/SCOPE.md, "Refusals").
+// The refusals and their numbers (docs/SCOPE.md, "Refusals").
 ghost use mathlib.Core.Path.{_≡_};
 ghost use Rattle.refusal.specs.Accepted.{isAccepted};
 ghost use Rattle.refusal.specs.Number.{numberOf};

@@ -1,4 +1,5 @@
--- The root against the mean of two values, as whole-number squares: from units of the format's smallest value to any fractions of the same sizes. Assumes nothing.
+-- The root against the mean of two values, as whole-number squares: from units of the format's smallest value to any fractions of the same sizes. Assumes
+-- nothing.
 use mathlib.Core.Path.{_≡_, sym, ap, _∙_}
 use Prim.Native.Nat.{ℕ, _+_, _*_, _<_}
 use native.Mathlib.Nat.{le-of-eq, lt-of-lt-of-le, lt-of-le-of-lt, mul-lt-mul-of-pos-right, mul-pos, lt-of-mul-lt-mul-right}

@@ -1,4 +1,5 @@
--- A number that is nearer to the root than both its neighbours is the root to the nearest whole number: what `extend` tests. Nothing here is about floats. Assumes nothing.
+-- A number that is nearer to the root than both its neighbours is the root to the nearest whole number: what `extend` tests. Nothing here is about floats.
+-- Assumes nothing.
 use mathlib.Core.Path.{_≡_, refl, sym, ap}
 use mathlib.Core.Bool.{Bool, true, false, not}
 use Prim.Native.Nat.{ℕ, zero, suc, _+_, _-_, _*_, _/_, _%_, _^_, _≤_, _<_}

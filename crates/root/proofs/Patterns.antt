@@ -2,7 +2,8 @@
 use mathlib.Core.Path.{_≡_, refl, sym, ap, _∙_, subst}
 use mathlib.Core.Bool.{Bool, true, false, not, cond}
 use Prim.Native.Nat.{ℕ, zero, suc, _+_, _-_, _*_, _/_, _%_, _^_, _≤_, _<_}
-use native.Mathlib.Nat.{le-trans, le-of-eq, eq-or-lt-of-le, lt-irrefl, lt-of-lt-of-le, lt-of-le-of-lt, mul-le-mul-right, mul-pos, mul-assoc, add-comm, one-mul, pow-succ'}
+use native.Mathlib.Nat.{le-trans, le-of-eq, eq-or-lt-of-le, lt-irrefl, lt-of-lt-of-le, lt-of-le-of-lt, mul-le-mul-right, mul-pos, mul-assoc, add-comm}
+use native.Mathlib.Nat.{one-mul, pow-succ'}
 use native.Mathlib.Omega.{arith}
 use lib.Dec.{T, leb, ltb, eqb, leb→le, ltb→lt, nleb→lt, nltb→le}
 use lib.Pow.{pow-pos, pow-mono, pow-add, shl-lt}

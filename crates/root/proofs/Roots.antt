@@ -2,7 +2,8 @@
 use mathlib.Core.Path.{_≡_, refl, sym, ap, _∙_, subst}
 use mathlib.Core.Bool.{Bool, true, false, not, cond}
 use Prim.Native.Nat.{ℕ, zero, suc, _+_, _*_, _/_, _^_, _≤_, _<_, compare, Ordering, Ordering·lt, Ordering·eq, Ordering·gt}
-use native.Mathlib.Nat.{le-antisymm, le-of-lt, le-of-eq, le-trans, lt-irrefl, lt-of-not-le, lt-of-lt-of-le, lt-of-le-of-lt, mul-le-mul, mul-lt-mul-of-pos-right, pow-succ'}
+use native.Mathlib.Nat.{le-antisymm, le-of-lt, le-of-eq, le-trans, lt-irrefl, lt-of-not-le, lt-of-lt-of-le, lt-of-le-of-lt, mul-le-mul}
+use native.Mathlib.Nat.{mul-lt-mul-of-pos-right, pow-succ'}
 use native.Mathlib.Omega.{arith}
 use lib.Dec.{T, leb, isLe, isEq, eqb, leb→le, nleb→lt, eqb→eq, eqb-refl}
 use lib.Arith.{lt-of-le-ne}

@@ -1,4 +1,5 @@
--- A value above zero as `sqrt` and `scale` hand it to `root_bits`: one whole number p, whose lower 53 binary digits are c and whose upper ones are e. Definitions only.
+-- A value above zero as `sqrt` and `scale` hand it to `root_bits`: one whole number p, whose lower 53 binary digits are c and whose upper ones are e.
+-- Definitions only.
 use Prim.Native.Nat.{ℕ, _+_, _*_, _/_, _%_, _^_}
 use mathlib.Core.Bool.{cond}
 use lib.Dec.{ltb}

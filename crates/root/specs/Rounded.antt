@@ -41,9 +41,9 @@ abbrev pub SquareOf : Float → Float → Type 0
 SquareOf y x = sizeOf y .num * sizeOf y .num * sizeOf x .den ≡ sizeOf x .num * (sizeOf y .den * sizeOf y .den)
 
 -- r is the value of the format f that is nearest to the square root of x, which is finite and above zero.
--- A value y above r is farther from the root exactly where the root is below the mean of r and y, and so where x is below the square of that mean. A value y below
--- r is farther exactly where x is above that square. Both are strict, for every other y: there are no ties, and no second nearest value.
--- A value below zero is farther than zero is, and r is not.
+-- A value y above r is farther from the root exactly where the root is below the mean of r and y, and so where x is below the square of that mean.
+-- A value y below r is farther exactly where x is above that square.
+-- Both are strict, for every other y: there are no ties, and no second nearest value. A value below zero is farther than zero is, and r is not.
 pub record Nearest (f : Format) (x r : Float) : Type 0 where
   pub held : T (fits f r)
   pub finite-not-below-zero : T (notBelowZero r)

@@ -4,7 +4,7 @@ use mathlib.Core.List.{List, [], _∷_}
 use Prim.Native.Nat.{ℕ, _/_, min}
 use lib.ListN.{length}
 
--- the places of three elements in a length that count: no more than 4,294,967,295, which is what a 32-bit number can count. Refusal 6 asks of all of them, n / 3
+-- the places of three elements in a length that count: a 32-bit number can count no more than 4,294,967,295. Refusal 6 asks of all of them, n / 3
 unfoldable pub countedPlaces : ℕ → ℕ
 countedPlaces n = min (n / 3) 4294967295
 

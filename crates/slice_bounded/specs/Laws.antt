@@ -1,4 +1,5 @@
--- A float whose size is at most a power of two: products and sums of such floats are bounded by higher powers, and finite while the format holds those. Assumes nothing.
+-- A float whose size is at most a power of two: products and sums of such floats are bounded by higher powers, and finite while the format holds those. Assumes
+-- nothing.
 use mathlib.Core.Path.{_≡_, refl, sym, ap, _∙_, subst}
 use mathlib.Core.Logic.{inl, inr}
 use Prim.Native.Nat.{ℕ, zero, suc, _+_, _-_, _*_, _^_, _≤_, _<_}

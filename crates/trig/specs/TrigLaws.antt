@@ -11,7 +11,8 @@ use Rattle.ieee.specs.Same.{Same, isZero, plusZero, same-refl, neg-same, add-sa
 use Rattle.ieee.specs.Whole.{mod4}
 use Rattle.ieee.specs.WholeLaws.{nearest-zero}
 use Rattle.trig.specs.declared.SinCos.{SinCos}
-use Rattle.trig.specs.Trig.{constH, constA, constB, constC, reduced, overFactorial, horner, sineTerms, cosineTerms, sineSum, cosineSum, quadrant, fromReduced, fromWhole, sinCos}
+use Rattle.trig.specs.Trig.{constH, constA, constB, constC, reduced, overFactorial, horner, sineTerms, cosineTerms, sineSum, cosineSum, quadrant}
+use Rattle.trig.specs.Trig.{fromReduced, fromWhole, sinCos}
 
 -- 1.0 and -0.0
 abbrev pub one : Float

@@ -22,7 +22,11 @@ times-rows-requires c κs = search needs
 
 returns : tie.Need-returns
 unfolding productRow
-returns c = c .times-rows .ensures ∙ (λ i. timesRows (c .before .before .before .before .before .args .r) (c .before .before .before .before .row-of .ensures i) (c .before .before .before .row-of2 .ensures i) (c .before .before .row-of3 .ensures i) (c .before .row-of4 .ensures i))
+returns c =
+    let p = c .before .before .before .before in
+    c .times-rows .ensures
+    ∙ (λ i. timesRows (p .before .args .r) (p .row-of .ensures i) (c .before .before .before .row-of2 .ensures i) (c .before .before .row-of3 .ensures i)
+    (c .before .row-of4 .ensures i))
 
 pub product-row-spec : {M : Type 1} → statement M
 product-row-spec =
