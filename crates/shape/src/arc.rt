@@ -31,7 +31,8 @@ fn arc_share(segments: usize, span: f64) -> f64
     full * counted_span(span) / TAU
 }
 
-// The number of segments of an arc, where a full turn has `segments`.
+// The Rust's arc_segments, an inner function: what calls it has refused more than 1,024 segments. The number of segments of an arc, where a full turn has
+// `segments`.
 pub fn arc_segments(segments: usize, span: f64) -> usize
     requires { ⌜ segments ≤ 1024 ⌝ }
     ensures { λ r. ⌜ r ≡ arcSegments segments span ⌝ }
