@@ -60,7 +60,7 @@ pub fn keep_finite(vertices: &[f64], n: usize, a: Mat4, small: bool) -> bool
 }
 
 // Puts the first n vertices, which are finite, under the matrix.
-pub fn move_finite(vertices: &mut [f64], n: usize, a: Mat4)
+fn move_finite(vertices: &mut [f64], n: usize, a: Mat4)
     requires { ⌜ FiniteVertices (now vertices) n ⌝ }
     ensures { λ _. ⌜ now (vertices .exit) ≡ eachTo (movedTriple a) n (now (vertices .entry)) ⌝ }
 {

@@ -13,6 +13,7 @@ use Rattle.mesh_check.proofs.Stored.{stored-flip}
 use Rattle.mesh.proofs.Given.{gives-kept, gives-done}
 use Rattle.mesh_check.proofs.Sound.{check-sound}
 use borrow.Author.Needs.{needs}
+use native.Mathlib.Omega.{arith}
 use Rattle.mesh.proofs.edit.flip.Statement.{statement}
 use Rattle.mesh.proofs.edit.flip.Tie as tie
 
@@ -40,7 +41,7 @@ turn-all-requires c κs =
     let s = state (a .mesh) (now (a .vertices)) (now (a .triangles)) in
     let r = c .before .before .before .check in
     let h : isAccepted (r .result) ≡ true = sym (c .before .before .is-accepted .ensures) ∙ not-false _ (c .before .if1 .left) in
-    check-sound s (r .result) (r .ensures) h .triangles
+    omega (arith, check-sound s (r .result) (r .ensures) h .triangles)
 
 same-length-2 : tie.Need-same-length-2
 same-length-2 c = search needs
