@@ -25,7 +25,7 @@ use Rattle.shape.proofs.Shape as ofShape
 use Rattle.shape.specs.declared.TessellationOptions.{TessellationOptions}
 use Rattle.weld.specs.Parts.{PartsRun}
 use Rattle.weld.specs.PartsLaws.{parts-one}
-use Rattle.tessellate_spec.specs.Solid.{partsOf}
+use Rattle.solid_spec.specs.Solid.{partsOf}
 use Rattle.solid.specs.Limits.{Listed}
 use Rattle.solid.specs.Soups.{solidSoup, tubeSoup, outlineSoup}
 

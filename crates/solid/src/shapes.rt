@@ -2,7 +2,7 @@
 ghost use mathlib.Core.Path.{_≡_};
 ghost use Rattle.weld.specs.Rep.{held, Ready};
 ghost use Rattle.weld.specs.Parts.{PartsRun};
-ghost use Rattle.tessellate_spec.specs.Solid.{partsOf};
+ghost use Rattle.solid_spec.specs.Solid.{partsOf};
 ghost use Rattle.solid.specs.Limits.{Bounded, Listed};
 use crate::outlines;
 use crate::single;

@@ -204,7 +204,7 @@ module _ (p : List Float) (s : Surface) (len n : ℕ) (full : Bool) where
 
 pub rotpoly-runs : (a q normal : ℕ) (swap : Bool) (v p : List Float) (start stop : Float) (segments : ℕ) (h k : Held) → q ≡ radialAxis a normal → swap ≡ swaps a normal
     → p ≡ prepared swap v → Runs (rotatedFrom a q p (capTriangles p) start stop segments) h k → Runs (rotpoly a normal v start stop segments) h k
-unfolding rotpoly
+unfolding rotpoly prepared
 rotpoly-runs a q normal swap v p start stop segments h k x y z R =
     runs-as
     (ap (λ (r : ℕ). rotatedFrom a r p (capTriangles p) start stop segments) x

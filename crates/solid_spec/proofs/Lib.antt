@@ -13,4 +13,5 @@ pub mod PartsBalanced
 pub mod Sides
 pub mod OutlineBalanced
 pub mod PolygonsBalanced
+pub mod SolidLaws
 pub mod Examples

@@ -13,14 +13,14 @@ use Rattle.mesh_balance_spec.specs.Grid.{Bounds}
 use Rattle.mesh_balance_spec.specs.Prism.{cycle}
 use Rattle.outline.specs.Clean.{cleanPolygon}
 use Rattle.outline.specs.Area.{signedArea}
-use Rattle.outline.specs.Ccw.{swapped, reversed, ccwPolygon, prepared}
+use Rattle.outline.specs.Ccw.{reversed, ccwPolygon}
 use Rattle.outline.proofs.Copies.{length-reversed}
 use Rattle.outline_triangulate.specs.Triangulate.{triangulatePolygon}
 use Rattle.outline_caps_law.specs.Caps as Cap
 use Rattle.mesh_spec.specs.Mesh.{plusZeroV}
 use Rattle.shape.specs.Arc.{isFull}
 use Rattle.solid_spec.specs.Outline.{extrudedFrom, rotatedFrom}
-use Rattle.solid_spec.specs.Polygons.{capTriangles, extrudedPolygon, lowEnd, highEnd, linPolySoup, radialAxis, swaps, rotpoly, rotPolySoup, capCount}
+use Rattle.solid_spec.specs.Polygons.{capTriangles, extrudedPolygon, lowEnd, highEnd, linPolySoup, radialAxis, rotpoly, rotPolySoup, capCount, radialCorners}
 use Rattle.solid_spec.proofs.Closes.{Closes, nothing-closes}
 use Rattle.solid_spec.proofs.OutlineBalanced.{extrudedFrom-closes, rotatedFrom-closes}
 
@@ -95,17 +95,14 @@ linPolySoup-balanced n v e l = extrudedPolygon-balanced (min n 2) v (lowEnd e l)
 -- the solid RotPoly: of a full turn, or with n - 2 cap triangles for the n corners that `clean_polygon` leaves of those in (radial, axial) coordinates
 pub rotPolySoup-balanced : (normal a : ℕ) (v : List Float) (start stop : Float) (segments : ℕ)
     → (isFull (absolute (sub binary64 stop start)) ≡ false
-    → capCount (prepared (swaps a normal) v) ≡ 3 * (corners (cleanPolygon (cond (swaps a normal) (swapped v) v)) - 2))
+    → capCount (ccwPolygon (radialCorners a normal v)) ≡ 3 * (corners (cleanPolygon (radialCorners a normal v)) - 2))
     → Balanced (map (mapTri plusZeroV) (rotPolySoup normal a v start stop segments))
 unfolding rotPolySoup rotpoly
 rotPolySoup-balanced normal a v start stop segments k = go (ltb normal 3 && ltb a 3 && not (eqb normal a))
   where
-    p : List Float
-    p = prepared (swaps a normal) v
-
-    same : corners p ≡ corners (cleanPolygon (cond (swaps a normal) (swapped v) v))
-    same = unfold prepared in ccw-corners (cond (swaps a normal) (swapped v) v)
+    w : List Float
+    w = radialCorners a normal v
 
     go : (t : Bool) → Closes (cond t (rotpoly a normal v start stop segments) [])
-    go true = rotated-closes a (radialAxis a normal) p start stop segments (λ f. k f ∙ ap (λ (n : ℕ). 3 * (n - 2)) (sym same))
+    go true = rotated-closes a (radialAxis a normal) (ccwPolygon w) start stop segments (λ f. k f ∙ ap (λ (n : ℕ). 3 * (n - 2)) (sym (ccw-corners w)))
     go false = nothing-closes

@@ -8,5 +8,6 @@ pub mod Boxes
 pub mod Wire
 pub mod Outline
 pub mod Polygons
+pub mod Solid
 pub mod Fits
 pub mod BalancedParts

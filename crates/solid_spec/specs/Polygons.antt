@@ -10,7 +10,7 @@ use Rattle.ieee.specs.Number.{minimum, maximum}
 use Rattle.mesh_balance_spec.specs.Soup.{Tri}
 use Rattle.mesh_balance_spec.specs.Buffer.{tris}
 use Rattle.outline.specs.Axes.{planeAxes}
-use Rattle.outline.specs.Ccw.{ccwPolygon, prepared}
+use Rattle.outline.specs.Ccw.{swapped, ccwPolygon}
 use Rattle.outline_triangulate.specs.Triangulate.{triangulatePolygon}
 use Rattle.solid_spec.specs.Grid.{Soup}
 use Rattle.solid_spec.specs.Outline.{extrudedFrom, rotatedFrom}
@@ -19,7 +19,7 @@ use Rattle.solid_spec.specs.Outline.{extrudedFrom, rotatedFrom}
 unfoldable pub capTriangles : List Float → List (Tri ℕ)
 capTriangles p = tris (triangulatePolygon p .triangles)
 
--- how many corner numbers the cap triangles have, three each
+-- how many corner numbers the cap triangles have, three each. They are 3 * (n - 2) at most for n corners; below two corners n - 2 is 0: no caps
 abbrev pub capCount : List Float → ℕ
 capCount p = length (triangulatePolygon p .triangles)
 
@@ -38,6 +38,10 @@ radialAxis a normal = 3 - a - normal
 unfoldable pub swaps : ℕ → ℕ → Bool
 swaps a normal = not (eqb (planeAxes normal .u) (radialAxis a normal))
 
+-- the corners of a rotated outline in (radial, axial) coordinates, the `rh` of `rotpoly`
+abbrev pub radialCorners : ℕ → ℕ → List Float → List Float
+radialCorners a normal v = cond (swaps a normal) (swapped v) v
+
 -- `extruded_polygon`
 unfoldable pub extrudedPolygon : ℕ → List Float → Float → Float → Soup
 extrudedPolygon n v lo hi =
@@ -55,7 +59,7 @@ linPolySoup n v elevation length = extrudedPolygon (min n 2) v (lowEnd elevation
 -- `rotpoly`
 unfoldable pub rotpoly : ℕ → ℕ → List Float → Float → Float → ℕ → Soup
 rotpoly a normal v start stop segments =
-    let p = prepared (swaps a normal) v in
+    let p = ccwPolygon (radialCorners a normal v) in
     rotatedFrom a (radialAxis a normal) p (capTriangles p) start stop segments
 
 -- the case RotPoly, before its mesh is flipped for a negative volume: nothing for a direction above 2 or for two equal ones

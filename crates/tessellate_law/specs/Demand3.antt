@@ -22,7 +22,7 @@ use Rattle.mesh_check.specs.State.{meshOf}
 use Rattle.mesh.specs.Lists.{Call, after, AllBring, KeptByLists, kept-by-lists}
 use Rattle.mesh_made.specs.Made.{Lent}
 use Rattle.shape.specs.Rotated.{isRotPoly}
-use Rattle.tessellate_spec.specs.Solid.{outward, outwardIf, solidMesh}
+use Rattle.solid_spec.specs.Solid.{outward, outwardIf, solidMesh}
 use Rattle.tessellate_spec.specs.Outcome.{Job, jobParts, weldedMesh, placed, finalMesh}
 use Rattle.tessellate_law.specs.Words.{Accepts, left, given, FitsJob, Solid}
 use Rattle.tessellate_law.specs.AcceptedLaws.{accepted-says, given-final}

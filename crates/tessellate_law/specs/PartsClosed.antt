@@ -15,7 +15,7 @@ use Rattle.ieee.specs.Same.{true-T, T-true}
 use Rattle.math.specs.declared.Vec3.{Vec3}
 use Rattle.math.specs.Vec.{vFinite}
 use Rattle.mesh_balance_spec.specs.Buffer.{tris}
-use Rattle.outline.specs.Ccw.{ccwPolygon, prepared}
+use Rattle.outline.specs.Ccw.{ccwPolygon}
 use Rattle.outline_ears.specs.Ears.{tolerance}
 use Rattle.outline_triangulate.specs.Triangulate.{Clipping, start, passes, finished, triangulated, triangulatePolygon}
 use Rattle.outline_caps_law.specs.Edges.{Thirds, none, more}
@@ -26,7 +26,7 @@ use Rattle.mesh_spec.specs.Welded.{fromSoup-closed}
 use Rattle.solid_spec.specs.Grid.{Soup}
 use Rattle.shape.specs.Arc.{isFull}
 use Rattle.mesh_spec.specs.Slices.{vertexAt}
-use Rattle.solid_spec.specs.Polygons.{capTriangles, swaps, capCount}
+use Rattle.solid_spec.specs.Polygons.{capTriangles, radialCorners, capCount}
 use Rattle.solid_spec.proofs.Points.{finite-says}
 use Rattle.solid_spec.proofs.BoxBalanced.{boxSoup-balanced}
 use Rattle.solid_spec.proofs.SphereBalanced.{sphereSoup-balanced, sphericalShellSoup-balanced}
@@ -40,7 +40,7 @@ use Rattle.shape.specs.Drawing.{itemsOf, listOf, shapeFinite}
 use Rattle.shape.specs.DrawingLaws.{finite-at}
 use Rattle.slice.specs.Every.{every}
 use Rattle.mesh_spec.specs.Parts.{partsFinite}
-use Rattle.tessellate_spec.specs.Solid.{partsOf}
+use Rattle.solid_spec.specs.Solid.{partsOf}
 use Rattle.tessellate_law.specs.Words.{FitsShape, UnequalBounds, EachUnequal, FullTurn, Solid}
 use Rattle.solid_spec.specs.Fits.{FiniteV, FitsV, Bounded, FitsAll}
 use Rattle.solid_spec.specs.BalancedParts.{EachPart, BalancedPart}
@@ -109,7 +109,7 @@ module _ (cylindrical : Bool) (v : List Float) (o : TessellationOptions) (few : 
   parts-balanced (Polygon normal e) g n l u = absurd u
   parts-balanced (LinPoly normal e h) g n l u = (λ q. linPolySoup-balanced normal v e h (u .0) (counted (ccwPolygon v) _ (u .1)), tt)
   parts-balanced (RotPoly normal e a s t) g n l u =
-      (λ q. rotPolySoup-balanced normal a v s t (o .segments) (λ part. counted (prepared (swaps a normal) v) _ (turned-or s t _ u part)), tt)
+      (λ q. rotPolySoup-balanced normal a v s t (o .segments) (λ part. counted (ccwPolygon (radialCorners a normal v)) _ (turned-or s t _ u part)), tt)
   parts-balanced (Wire r) g n l u = wireParts-balanced cylindrical v r (o .segments) (o .«sphere_rings») few f
 
 -- each part gives a closed mesh

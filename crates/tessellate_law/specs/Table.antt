@@ -31,7 +31,7 @@ use Rattle.shape.specs.declared.OwnSystem.the-variants.{Inherited}
 use Rattle.shape.specs.declared.TessellationOptions.{TessellationOptions}
 use Rattle.shape.specs.Drawing.{effectiveCs, shapeCs, cylindrical}
 use Rattle.shape.specs.Rotated.{isRotPoly}
-use Rattle.tessellate_spec.specs.Solid.{partsOf, solidMesh}
+use Rattle.solid_spec.specs.Solid.{partsOf, solidMesh}
 use Rattle.tessellate_spec.specs.Outcome.{Job, jobParts, weldedMesh, placed, finalMesh}
 
 -- ---- the drawings

@@ -2,7 +2,7 @@
 -- `Closed`, with `NoneTwice` and `AllThere`, of a mesh is in crate mesh_spec, specs/Closed.antt; the lists of calls in crate mesh, specs/Lists.antt.
 use mathlib.Core.Path.{_≡_}
 use mathlib.Core.Logic.{_⊎_}
-use mathlib.Core.Bool.{true, false, cond}
+use mathlib.Core.Bool.{true, false}
 use mathlib.Core.List.{List}
 use Prim.Native.Nat.{ℕ, _+_, _-_, _*_, _/_, _<_}
 use lib.Dec.{T}
@@ -12,12 +12,12 @@ use Rattle.ieee.specs.Number.{plusZero, absolute, maximum}
 use Rattle.math.specs.declared.Vec3.{Vec3}
 use Rattle.refusal.specs.declared.Refusal.the-variants.{Accepted}
 use Rattle.outline.specs.Clean.{cleanPolygon}
-use Rattle.outline.specs.Ccw.{swapped, ccwPolygon, prepared}
+use Rattle.outline.specs.Ccw.{ccwPolygon}
 use Rattle.mesh_spec.specs.Mesh.{Mesh}
 use Rattle.shape.specs.Arc.{isFull}
 use Rattle.mesh_spec.specs.Slices.{vertexAt}
 use Rattle.solid_spec.specs.Cylinder.{innerRadius, outerRadius}
-use Rattle.solid_spec.specs.Polygons.{capTriangles, lowEnd, highEnd, swaps}
+use Rattle.solid_spec.specs.Polygons.{capTriangles, lowEnd, highEnd, radialCorners}
 use Rattle.shape.specs.declared.Shape.{Shape}
 use Rattle.shape.specs.declared.Shape.the-variants.{Box, MultiBox, Sphere, SphericalShell, Cylinder, CylindricalShell, Polygon, LinPoly, RotPoly, Wire}
 use Rattle.mesh_check.specs.State.{State, meshOf}
@@ -95,13 +95,10 @@ FullTurn start stop = isFull (absolute (sub binary64 stop start)) ≡ true
 abbrev pub cleaned : List Float → ℕ
 cleaned v = length (cleanPolygon v) / 2
 
--- n - 2 cap triangles: those that `triangulate_polygon` gives for the prepared corners p
-abbrev pub Capped : List Float → ℕ → Type 0
-Capped p n = length (capTriangles p) ≡ n - 2
-
--- the corners of a rotated outline in (radial, axial) coordinates, the `rh` of `rotpoly`
-abbrev pub radial : ℕ → ℕ → List Float → List Float
-radial axis normal v = cond (swaps axis normal) (swapped v) v
+-- n - 2 cap triangles, where `clean_polygon` leaves n of the corners v: those that `triangulate_polygon` gives for the corners of `ccw_polygon`.
+-- Below three corners there are no cap triangles and n - 2 is 0, also for n of 0 and 1: nothing is drawn of such an outline
+abbrev pub Capped : List Float → Type 0
+Capped v = length (capTriangles (ccwPolygon v)) ≡ cleaned v - 2
 
 -- the solids of demand 3, with what it asks of each. A polygon is a sheet and not in its list
 abbrev pub Solid : Shape → List Float → Type 0
@@ -112,6 +109,6 @@ Solid (Wire radius) v = Unit
 Solid (Box start stop) v = UnequalBounds start stop
 Solid MultiBox v = EachUnequal v
 Solid (CylindricalShell start stop radius width) v = UnequalRadii radius width
-Solid (LinPoly normal elevation length) v = UnequalEnds elevation length × Capped (ccwPolygon v) (cleaned v)
-Solid (RotPoly normal elevation axis start stop) v = FullTurn start stop ⊎ Capped (prepared (swaps axis normal) v) (cleaned (radial axis normal v))
+Solid (LinPoly normal elevation length) v = UnequalEnds elevation length × Capped v
+Solid (RotPoly normal elevation axis start stop) v = FullTurn start stop ⊎ Capped (radialCorners axis normal v)
 Solid (Polygon normal elevation) v = ⊥

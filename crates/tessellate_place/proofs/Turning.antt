@@ -15,7 +15,7 @@ use Rattle.mesh_check.proofs.Stored.{stored-flip}
 use Rattle.mesh_measures.proofs.Readings.{sum-is}
 use Rattle.mesh_sums.proofs.Terms.{volume-is}
 use Rattle.mesh_check.proofs.Lying.{stored-self}
-use Rattle.tessellate_spec.specs.Solid.{outward, outwardIf}
+use Rattle.solid_spec.specs.Solid.{outward, outwardIf}
 
 -- turning names no new vertex
 flips-there : (b : Bool) (m : Mesh) → AllThere m → AllThere (cond b (flip m) m)

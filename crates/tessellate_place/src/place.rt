@@ -3,7 +3,7 @@ ghost use Rattle.mesh_spec.specs.Edits.{transform};
 ghost use Rattle.mesh_check.specs.State.{state, meshOf, Sound};
 ghost use Rattle.mesh_check.specs.Places.{Whole};
 ghost use Rattle.mesh_made.specs.Steps.{Makes};
-ghost use Rattle.tessellate_spec.specs.Solid.{outwardIf};
+ghost use Rattle.solid_spec.specs.Solid.{outwardIf};
 ghost use Rattle.tessellate_spec.specs.Outcome.{placed};
 ghost use Rattle.tessellate_place.specs.Ends.{movedRefusal, placedRefusal};
 use crate::turn;

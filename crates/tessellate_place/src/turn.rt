@@ -1,7 +1,7 @@
 // The end of the case RotPoly: `if m.signed_volume() < 0.0 { m.flip(); }`.
 ghost use mathlib.Core.Path.{_≡_};
 ghost use Rattle.mesh_check.specs.State.{state, meshOf, stored, Sound};
-ghost use Rattle.tessellate_spec.specs.Solid.{outward, outwardIf};
+ghost use Rattle.solid_spec.specs.Solid.{outward, outwardIf};
 use mesh_check::TriMesh;
 
 // Turns every triangle where the signed volume is below 0.

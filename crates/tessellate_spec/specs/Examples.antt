@@ -34,7 +34,7 @@ use Rattle.mesh_spec.specs.Parts.{partsFinite}
 use Rattle.mesh_check.specs.State.{tooFewPlaces}
 use Rattle.mesh_made.specs.Made.{Lent, shortWork, Ending, refusedAs, acceptedAs, madeAs}
 use Rattle.shape.specs.Rotated.{isRotPoly}
-use Rattle.tessellate_spec.specs.Solid.{partsOf, solidMesh}
+use Rattle.solid_spec.specs.Solid.{partsOf, solidMesh}
 use Rattle.tessellate_spec.specs.Outcome.{Job, jobParts, weldedMesh, placed, finalMesh, jobRefusal, badSoup, badPlaced}
 use Rattle.refusal.specs.Accepted.{orElse}
 use Rattle.tessellate_spec.specs.Outcome.{badVertex, refusalOf, tessellateOf}

@@ -1,5 +1,4 @@
 -- What the contract of `tessellate` cites.
-pub mod Solid
 pub mod Outcome
 pub mod Examples
 pub mod OutcomeLaws

@@ -33,7 +33,7 @@ use Rattle.shape.specs.Drawing.{cylindrical, shapeCs, drawingRefusal}
 use Rattle.slice.specs.Every.{every}
 use Rattle.mesh_check.specs.State.{tooFewPlaces}
 use Rattle.mesh_made.specs.Made.{Lent, shortWork, Ending, madeAs}
-use Rattle.tessellate_spec.specs.Solid.{partsOf, solidMesh}
+use Rattle.solid_spec.specs.Solid.{partsOf, solidMesh}
 
 -- the arguments of `tessellate`, but for the lent slices
 pub record Job : Type 0 where

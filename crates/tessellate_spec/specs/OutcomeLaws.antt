@@ -16,7 +16,7 @@ use Rattle.shape.specs.Rotated.{isRotPoly}
 use Rattle.mesh_check.specs.State.{tooFewPlaces}
 use Rattle.mesh_made.specs.Made.{Lent, shortWork}
 use Rattle.mesh_made.specs.Steps.{partsRefusal}
-use Rattle.tessellate_spec.specs.Solid.{outward, outwardIf, solidMesh}
+use Rattle.solid_spec.specs.Solid.{outward, outwardIf, solidMesh}
 use Rattle.tessellate_spec.specs.Outcome.{Job, jobParts, weldedMesh, jobRefusal, badSoup, badVertex, refusalOf}
 
 -- ---- turning outward keeps the counts

@@ -22,7 +22,7 @@ use Rattle.mesh_made.specs.declared.Made.{Made}
 use Rattle.mesh_made.specs.Made.{Lent}
 use Rattle.mesh_made.specs.Steps.{Makes, partsRefusal}
 use Rattle.mesh_made.proofs.Ending.{makes-as, makes-none}
-use Rattle.tessellate_spec.specs.Solid.{partsOf, outwardIf}
+use Rattle.solid_spec.specs.Solid.{partsOf, outwardIf}
 use Rattle.tessellate_spec.specs.Outcome.{Job, jobParts, weldedMesh, placed, finalMesh, jobRefusal, badPlaced, badVertex, refusalOf}
 use Rattle.tessellate_spec.specs.OutcomeLaws.{welded-is, at-parts}
 use Rattle.tessellate_place.specs.Ends.{placedRefusal}

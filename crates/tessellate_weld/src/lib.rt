@@ -5,7 +5,7 @@ ghost use lib.ListN.{length};
 ghost use Rattle.mesh_spec.specs.Mesh.{fromParts};
 ghost use Rattle.mesh_made.specs.Made.{lent, shortWork};
 ghost use Rattle.mesh_made.specs.Steps.{Makes, partsRefusal};
-ghost use Rattle.tessellate_spec.specs.Solid.{partsOf};
+ghost use Rattle.solid_spec.specs.Solid.{partsOf};
 ghost use Rattle.tessellate_spec.specs.Outcome.{job, finalMesh, refusalOf};
 ghost use Rattle.tessellate_weld.specs.Steps.{Drawable, Drawn};
 use mesh_made::Made;

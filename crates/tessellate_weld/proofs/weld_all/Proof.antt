@@ -9,7 +9,7 @@ use Rattle.weld.specs.PartsLaws.{parts-welded}
 use Rattle.mesh_made.specs.Steps.{partsRefusal}
 use Rattle.mesh_made.proofs.Ending.{lent-same, makes-as, makes-is}
 use Rattle.mesh_made.proofs.Judging.{work-enough, welded-makes}
-use Rattle.tessellate_spec.specs.Solid.{partsOf}
+use Rattle.solid_spec.specs.Solid.{partsOf}
 use Rattle.tessellate_weld.proofs.Welding.{bounded, listed}
 use Rattle.tessellate_weld.proofs.weld_all.Statement.{statement}
 use Rattle.tessellate_weld.proofs.weld_all.Tie as tie

@@ -1,6 +1,6 @@
 -- `solid::shapes::weld_shape` meets its contract. Assumes nothing.
 use borrow.Author.Needs.{needs}
-use Rattle.tessellate_spec.specs.Solid.{partsOf}
+use Rattle.solid_spec.specs.Solid.{partsOf}
 use Rattle.solid.proofs.ShapeRuns.{shape-as, solid-part, tube-part, outline-part}
 use Rattle.solid.proofs.shapes.weld_shape.Statement.{statement}
 use Rattle.solid.proofs.shapes.weld_shape.Tie as tie

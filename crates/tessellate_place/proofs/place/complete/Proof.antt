@@ -6,7 +6,7 @@ use Rattle.mesh_spec.specs.Mesh.{Mesh}
 use Rattle.mesh_check.specs.State.{state, meshOf}
 use Rattle.mesh_check.proofs.Lying.{stored-whole, mesh-is}
 use Rattle.mesh_made.proofs.Ending.{makes-as}
-use Rattle.tessellate_spec.specs.Solid.{outwardIf}
+use Rattle.solid_spec.specs.Solid.{outwardIf}
 use Rattle.tessellate_spec.specs.Outcome.{placed}
 use Rattle.tessellate_place.specs.Ends.{placedRefusal}
 use Rattle.tessellate_place.proofs.Turning.{outwardIf-there}

@@ -3,7 +3,7 @@ use mathlib.Core.Path.{_≡_, sym, ap, _∙_}
 use mathlib.Core.Bool.{Bool}
 use denote.Ref.{now}
 use Rattle.mesh_check.specs.State.{State, state, meshOf, stored}
-use Rattle.tessellate_spec.specs.Solid.{outwardIf}
+use Rattle.solid_spec.specs.Solid.{outwardIf}
 use Rattle.mesh_check.proofs.Lying.{stored-self}
 use borrow.Author.Needs.{needs}
 use Rattle.tessellate_place.proofs.turn.turn_rotated.Statement.{statement}
