@@ -2,4 +2,5 @@
 pub mod Solid
 pub mod Outcome
 pub mod Examples
+pub mod Sizes
 pub mod OutcomeLaws
