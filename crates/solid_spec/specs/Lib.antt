@@ -9,5 +9,6 @@ pub mod Wire
 pub mod Outline
 pub mod Polygons
 pub mod Solid
+pub mod Sizes
 pub mod Fits
 pub mod BalancedParts

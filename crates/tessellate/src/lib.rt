@@ -1,9 +1,9 @@
 // The call tessellate of src/tessellate.rs over lent memory: a shape with its list, its system, its resolution and its operations
 // becomes a mesh in the lent slices, or is refused.
-ghost use mathlib.Core.Path.{_≡_};
-ghost use Rattle.mesh_made.specs.Made.{lent, GivesMade};
+ghost use Rattle.mesh_made.specs.Made.{lent};
 ghost use Rattle.mesh_made.specs.Steps.{Makes};
-ghost use Rattle.tessellate_spec.specs.Outcome.{job, finalMesh, refusalOf, tessellateOf};
+ghost use Rattle.tessellate_spec.specs.Outcome.{job, finalMesh, refusalOf};
+ghost use Rattle.tessellate_law.specs.Promise.{Promise};
 use mesh_made::Made;
 use refusal::Refusal;
 use shape::CoordSystem;
@@ -80,8 +80,8 @@ pub fn tessellate(
     triangles: &mut [u32],
     work: &mut [u32],
 ) -> Made
-    ensures { λ r. ⌜ GivesMade
-        (tessellateOf (job shape (now (list .entry)) own default options degrees ops «op_count») (lent (now (vertices .entry)) (now (triangles .entry)) (now (work .entry))))
+    ensures { λ r. ⌜ Promise
+        (job shape (now (list .entry)) own default options degrees ops «op_count») (lent (now (vertices .entry)) (now (triangles .entry)) (now (work .entry)))
         r (now (vertices .exit)) (now (triangles .exit)) (now (work .exit)) ⌝ }
 {
     let made = make(

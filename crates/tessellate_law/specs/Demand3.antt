@@ -24,7 +24,7 @@ use Rattle.mesh_made.specs.Made.{Lent}
 use Rattle.shape.specs.Rotated.{isRotPoly}
 use Rattle.solid_spec.specs.Solid.{outward, outwardIf, solidMesh}
 use Rattle.tessellate_spec.specs.Outcome.{Job, jobParts, weldedMesh, placed, finalMesh}
-use Rattle.tessellate_law.specs.Words.{Accepts, left, given, FitsJob, Solid}
+use Rattle.tessellate_law.specs.Words.{Accepts, left, given, FitsSolid, Solid}
 use Rattle.tessellate_law.specs.AcceptedLaws.{accepted-says, given-final}
 use Rattle.tessellate_law.specs.PartsClosed.{parts-balanced, parts-closed}
 use Rattle.solid_spec.specs.BalancedParts.{EachPart}
@@ -33,7 +33,7 @@ use Rattle.solid_spec.specs.BalancedParts.{EachPart}
 
 pub record Demand3 : Type 0 where
   -- an accepted solid of the list is closed: its edges balance, no triangle names one vertex twice or a vertex that isn't there
-  pub closed : (j : Job) (n : Lent) → Accepts j n → FitsJob j → Solid (j .shape) (j .list) → Closed (given j n)
+  pub closed : (j : Job) (n : Lent) → Accepts j n → FitsSolid (j .shape) (j .list) → Solid (j .shape) (j .list) → Closed (given j n)
   -- of every accepted shape, no triangle names one vertex twice
   pub noneTwice : (j : Job) (n : Lent) → Accepts j n → NoneTwice (given j n)
   -- nor a vertex that isn't there
@@ -41,7 +41,7 @@ pub record Demand3 : Type 0 where
   -- any list of appends, flips and transforms keeps a mesh closed, and keeps each of the three properties by itself, for any start
   pub lists : KeptByLists
   -- so an accepted solid of the list is closed after any list of calls in which each mesh appended is closed
-  pub closedAfter : (j : Job) (n : Lent) → Accepts j n → FitsJob j → Solid (j .shape) (j .list)
+  pub closedAfter : (j : Job) (n : Lent) → Accepts j n → FitsSolid (j .shape) (j .list) → Solid (j .shape) (j .list)
       → (calls : List Call) → AllBring Closed calls (left j n) → Closed (meshOf (after (left j n) calls))
 
 -- ---- what the mesh of a job keeps
@@ -96,13 +96,13 @@ each Q h (p ∷ ps) = (h p, each Q h ps)
 
 -- ---- the proof
 
-is-closed : (j : Job) (n : Lent) → Accepts j n → FitsJob j → Solid (j .shape) (j .list) → Closed (given j n)
+is-closed : (j : Job) (n : Lent) → Accepts j n → FitsSolid (j .shape) (j .list) → Solid (j .shape) (j .list) → Closed (given j n)
 unfolding jobParts
 is-closed j n h f s =
     let a = accepted-says j n h in
     let d = a .drawing in
     let cyl = cylindrical (shapeCs (j .shape) (j .own) (j .default)) in
-    let b = parts-balanced cyl (j .list) (j .options) (d .segments-most) (f .list) (j .shape) (f .shape) (d .shape-finite) (d .list-finite) s in
+    let b = parts-balanced cyl (j .list) (j .options) (d .segments-most) (j .shape) f (d .shape-finite) (d .list-finite) s in
     subst Closed (sym (given-final j n h))
     (final Closed (record { empty = no-mesh-closed; appended = append-closed; flipped = flip-closed; transformed = transform-closed }) j (parts-closed (jobParts j) b (a .soup)))
 

@@ -3,4 +3,5 @@ pub mod Words
 pub mod AcceptedLaws
 pub mod PartsClosed
 pub mod Demand3
+pub mod Promise
 pub mod Table

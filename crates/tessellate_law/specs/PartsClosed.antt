@@ -41,7 +41,7 @@ use Rattle.shape.specs.DrawingLaws.{finite-at}
 use Rattle.slice.specs.Every.{every}
 use Rattle.mesh_spec.specs.Parts.{partsFinite}
 use Rattle.solid_spec.specs.Solid.{partsOf}
-use Rattle.tessellate_law.specs.Words.{FitsShape, UnequalBounds, EachUnequal, FullTurn, Solid}
+use Rattle.tessellate_law.specs.Words.{FitsSolid, UnequalBounds, EachUnequal, FullTurn, Solid}
 use Rattle.solid_spec.specs.Fits.{FiniteV, FitsV, Bounded, FitsAll}
 use Rattle.solid_spec.specs.BalancedParts.{EachPart, BalancedPart}
 
@@ -94,23 +94,23 @@ turned-or : (start stop : Float) (A : Type 0) → FullTurn start stop ⊎ A → 
 turned-or start stop A (inl full) e = absurd (true-T false (sym e ∙ full))
 turned-or start stop A (inr a) e = a
 
-module _ (cylindrical : Bool) (v : List Float) (o : TessellationOptions) (few : o .segments ≤ 1024) (f : FitsAll v) where
-  pub parts-balanced : (s : Shape) → FitsShape s → shapeFinite s ≡ true → every finite (listOf (itemsOf s) v) ≡ true → Solid s v → EachPart BalancedPart (partsOf cylindrical s v o)
+module _ (cylindrical : Bool) (v : List Float) (o : TessellationOptions) (few : o .segments ≤ 1024) where
+  pub parts-balanced : (s : Shape) → FitsSolid s v → shapeFinite s ≡ true → every finite (listOf (itemsOf s) v) ≡ true → Solid s v → EachPart BalancedPart (partsOf cylindrical s v o)
   unfolding partsOf shapeFinite itemsOf listOf
   parts-balanced (Box a b) g n l u =
       let t = true-T (vFinite a && vFinite b) n in
       let h = bounded a b (g .0) (g .1) (finite-says a (and-l (vFinite a) (vFinite b) t)) (finite-says b (and-r (vFinite a) (vFinite b) t)) u in
       (boxSoup-balanced cylindrical a b (o .segments) few h, tt)
-  parts-balanced MultiBox g n l u = multiBoxParts-balanced cylindrical v (o .segments) few (boxes-bounded v f l u)
-  parts-balanced (Sphere c r) g n l u = (sphereSoup-balanced cylindrical c r (o .segments) (o .«sphere_rings») (g .0), tt)
-  parts-balanced (SphericalShell c r w) g n l u = (sphericalShellSoup-balanced cylindrical c r w (o .segments) (o .«sphere_rings») (g .0), tt)
+  parts-balanced MultiBox g n l u = multiBoxParts-balanced cylindrical v (o .segments) few (boxes-bounded v g l u)
+  parts-balanced (Sphere c r) g n l u = (sphereSoup-balanced cylindrical c r (o .segments) (o .«sphere_rings») g, tt)
+  parts-balanced (SphericalShell c r w) g n l u = (sphericalShellSoup-balanced cylindrical c r w (o .segments) (o .«sphere_rings») g, tt)
   parts-balanced (Cylinder a b r) g n l u = (cylinderSoup-balanced cylindrical a b r (o .segments) few, tt)
   parts-balanced (CylindricalShell a b r w) g n l u = (cylindricalShellSoup-balanced cylindrical a b r w (o .segments) few u, tt)
   parts-balanced (Polygon normal e) g n l u = absurd u
   parts-balanced (LinPoly normal e h) g n l u = (λ q. linPolySoup-balanced normal v e h (u .0) (counted (ccwPolygon v) _ (u .1)), tt)
   parts-balanced (RotPoly normal e a s t) g n l u =
       (λ q. rotPolySoup-balanced normal a v s t (o .segments) (λ part. counted (ccwPolygon (radialCorners a normal v)) _ (turned-or s t _ u part)), tt)
-  parts-balanced (Wire r) g n l u = wireParts-balanced cylindrical v r (o .segments) (o .«sphere_rings») few f
+  parts-balanced (Wire r) g n l u = wireParts-balanced cylindrical v r (o .segments) (o .«sphere_rings») few g
 
 -- each part gives a closed mesh
 pub parts-closed : (ps : List Soup) → EachPart BalancedPart ps → partsFinite ps ≡ true → EachPart (λ s. Closed (fromSoup s)) ps

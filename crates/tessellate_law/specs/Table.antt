@@ -33,6 +33,10 @@ use Rattle.shape.specs.Drawing.{effectiveCs, shapeCs, cylindrical}
 use Rattle.shape.specs.Rotated.{isRotPoly}
 use Rattle.solid_spec.specs.Solid.{partsOf, solidMesh}
 use Rattle.tessellate_spec.specs.Outcome.{Job, jobParts, weldedMesh, placed, finalMesh}
+use Rattle.tessellate_spec.specs.Examples.{fits-exactly, flat-fits-exactly}
+use Rattle.mesh_made.specs.Made.{Lent}
+use Rattle.tessellate_law.specs.Words.{Accepts, given}
+use Rattle.tessellate_law.specs.AcceptedLaws.{given-final}
 
 -- ---- the drawings
 
@@ -52,13 +56,23 @@ drawn s o = record { shape = s; list = []; own = Inherited; default = Cartesian;
 abbrev pub usual : TessellationOptions
 usual = record { segments = 32; «sphere_rings» = 16 }
 
--- the box (0,0,0) to (1,2,3)
-abbrev pub box : Mesh
-box = finalMesh (drawn (Box (at 0 0 0) (at 1 2 3)) usual)
+-- slices of so many floats, numbers and numbers of work
+abbrev pub slices : ℕ → ℕ → ℕ → Lent
+slices nv nt nw = record { vertices = nv; triangles = nt; work = nw }
 
--- the box (0,0,0) to (1,2,0)
+-- the box (0,0,0) to (1,2,3), and the mesh that the call leaves in slices that it just fits
+abbrev pub boxJob : Job
+boxJob = drawn (Box (at 0 0 0) (at 1 2 3)) usual
+
+abbrev pub box : Mesh
+box = given boxJob (slices 24 36 16)
+
+-- the box (0,0,0) to (1,2,0), and the same
+abbrev pub flatJob : Job
+flatJob = drawn (Box (at 0 0 0) (at 1 2 0)) usual
+
 abbrev pub flatBox : Mesh
-flatBox = finalMesh (drawn (Box (at 0 0 0) (at 1 2 0)) usual)
+flatBox = given flatJob (slices 12 6 8)
 
 -- corners (x, y), two floats each
 abbrev pub corners : List (ℕ × ℕ) → List Float
@@ -74,7 +88,8 @@ line = triangulatePolygon (corners ((0, 0) ∷ (1, 0) ∷ (2, 0) ∷ (3, 0) ∷ 
 -- ---- the table
 
 pub record Figures : Type 0 where
-  -- Box (0,0,0) to (1,2,3): 8 vertices, 12 triangles
+  -- Box (0,0,0) to (1,2,3): accepted, 8 vertices, 12 triangles
+  pub box-accepted : Accepts boxJob (slices 24 36 16)
   pub box-vertices : length (box .vertices) ≡ 8
   pub box-triangles : length (box .triangles) ≡ 12
   -- first vertices (0,0,0), (0,0,3), (0,2,3), (0,2,0); first triangles 0 1 2 and 0 2 3
@@ -83,7 +98,8 @@ pub record Figures : Type 0 where
   -- its area is 22, signed volume 6
   pub box-area : area box ≡ float 22
   pub box-volume : signedVolume box ≡ float 6
-  -- Box (0,0,0) to (1,2,0): 4 vertices, 2 triangles, area 2, open
+  -- Box (0,0,0) to (1,2,0): accepted, 4 vertices, 2 triangles, area 2, open
+  pub flat-accepted : Accepts flatJob (slices 12 6 8)
   pub flat-vertices : length (flatBox .vertices) ≡ 4
   pub flat-triangles : length (flatBox .triangles) ≡ 2
   pub flat-area : area flatBox ≡ float 2
@@ -107,8 +123,8 @@ pub record Figures : Type 0 where
   pub root-four : sqrt binary64 (float 4) ≡ float 2
   pub root-minus-zero : sqrt binary64 (neg (float 0)) ≡ neg (float 0)
   pub root-least : sqrt binary64 (fin false 1 (negsuc 1073)) ≡ fin false 1 (negsuc 536)
-  -- sphere r = 0: nothing, for any centre, segments and rings
-  pub no-sphere : (center : Vec3) (o : TessellationOptions) → finalMesh (drawn (Sphere center (float 0)) o) ≡ noMesh
+  -- sphere r = 0: nothing, for any centre, segments, rings and slices with which it is accepted
+  pub no-sphere : (center : Vec3) (o : TessellationOptions) (n : Lent) → Accepts (drawn (Sphere center (float 0)) o) n → given (drawn (Sphere center (float 0)) o) n ≡ noMesh
 
 -- ---- what it takes to compute them
 
@@ -141,16 +157,22 @@ boxMesh = record {
   triangles = (0, 1, 2) ∷ (0, 2, 3) ∷ (4, 5, 6) ∷ (4, 6, 7) ∷ (0, 4, 7) ∷ (0, 7, 1) ∷ (3, 2, 6) ∷ (3, 6, 5) ∷ (0, 3, 5) ∷ (0, 5, 4) ∷ (1, 7, 6) ∷ (1, 6, 2) ∷ [];
 }
 
-box-is : box ≡ boxMesh
+box-final : finalMesh boxJob ≡ boxMesh
 unfolding meshes
-box-is = refl
+box-final = refl
+
+box-is : box ≡ boxMesh
+box-is = given-final boxJob (slices 24 36 16) fits-exactly ∙ box-final
 
 abbrev flatMesh : Mesh
 flatMesh = record { vertices = at 0 0 0 ∷ at 0 2 0 ∷ at 1 0 0 ∷ at 1 2 0 ∷ []; triangles = (0, 1, 3) ∷ (0, 3, 2) ∷ [] }
 
-flat-is : flatBox ≡ flatMesh
+flat-final : finalMesh flatJob ≡ flatMesh
 unfolding meshes
-flat-is = refl
+flat-final = refl
+
+flat-is : flatBox ≡ flatMesh
+flat-is = given-final flatJob (slices 12 6 8) flat-fits-exactly ∙ flat-final
 
 area-is : area boxMesh ≡ float 22
 unfolding areas
@@ -218,12 +240,14 @@ sphere-none center o = refl
 
 pub figures : Figures
 figures = record {
+  box-accepted = fits-exactly;
   box-vertices = ap (λ (m : Mesh). length (m .vertices)) box-is;
   box-triangles = ap (λ (m : Mesh). length (m .triangles)) box-is;
   box-first-vertices = ap (λ (m : Mesh). take 4 (m .vertices)) box-is;
   box-first-triangles = ap (λ (m : Mesh). take 2 (m .triangles)) box-is;
   box-area = ap area box-is ∙ area-is;
   box-volume = ap signedVolume box-is ∙ volume-is;
+  flat-accepted = flat-fits-exactly;
   flat-vertices = ap (λ (m : Mesh). length (m .vertices)) flat-is;
   flat-triangles = ap (λ (m : Mesh). length (m .triangles)) flat-is;
   flat-area = ap area flat-is ∙ flat-area-is;
@@ -241,5 +265,5 @@ figures = record {
   root-four = four-root;
   root-minus-zero = minus-zero-root;
   root-least = least-root;
-  no-sphere = sphere-none;
+  no-sphere = λ center o n a. given-final (drawn (Sphere center (float 0)) o) n a ∙ sphere-none center o;
 }

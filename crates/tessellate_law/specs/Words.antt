@@ -41,27 +41,18 @@ given j n = meshOf (left j n)
 
 -- ---- the floats of a program
 
--- a float of binary64, as every f64 is; the type `Float` has others too
-abbrev pub Fits : Float → Type 0
-Fits x = T (fits binary64 x)
-
--- so is each number of a shape
-abbrev pub FitsShape : Shape → Type 0
-FitsShape (Box start stop) = FitsV start × FitsV stop
-FitsShape MultiBox = Unit
-FitsShape (Sphere center radius) = FitsV center × Fits radius
-FitsShape (SphericalShell center radius width) = FitsV center × Fits radius × Fits width
-FitsShape (Cylinder start stop radius) = FitsV start × FitsV stop × Fits radius
-FitsShape (CylindricalShell start stop radius width) = FitsV start × FitsV stop × Fits radius × Fits width
-FitsShape (Polygon normal elevation) = Fits elevation
-FitsShape (LinPoly normal elevation length) = Fits elevation × Fits length
-FitsShape (RotPoly normal elevation axis start stop) = Fits elevation × Fits start × Fits stop
-FitsShape (Wire radius) = Fits radius
-
--- and of a job's shape and list
-pub record FitsJob (j : Job) : Type 0 where
-  pub shape : FitsShape (j .shape)
-  pub list : FitsAll (j .list)
+-- the floats of a solid whose form the proof uses are floats of binary64, as every f64 is; the type `Float` has others too
+abbrev pub FitsSolid : Shape → List Float → Type 0
+FitsSolid (Box start stop) v = FitsV start × FitsV stop
+FitsSolid MultiBox v = FitsAll v
+FitsSolid (Sphere center radius) v = FitsV center
+FitsSolid (SphericalShell center radius width) v = FitsV center
+FitsSolid (Wire radius) v = FitsAll v
+FitsSolid (Cylinder start stop radius) v = Unit
+FitsSolid (CylindricalShell start stop radius width) v = Unit
+FitsSolid (Polygon normal elevation) v = Unit
+FitsSolid (LinPoly normal elevation length) v = Unit
+FitsSolid (RotPoly normal elevation axis start stop) v = Unit
 
 -- ---- the conditions
 

@@ -82,9 +82,14 @@ computed = tessellateOf
 -- ---- what the slices hold
 
 -- 8 vertices and 12 triangles, which just fit; 16 numbers of work are enough
-fits-exactly : tessellateOf box (of 24 36 16) .refusal ≡ Accepted
+pub fits-exactly : tessellateOf box (of 24 36 16) .refusal ≡ Accepted
 unfolding computed
 fits-exactly = refl
+
+-- so does the box (0,0,0) to (1,2,0): 4 vertices and 2 triangles
+pub flat-fits-exactly : tessellateOf (boxJob origin (new (float 1) (float 2) (float 0)) Cartesian 32 [] 0) (of 12 6 8) .refusal ≡ Accepted
+unfolding computed
+flat-fits-exactly = refl
 
 counts : tessellateOf box (of 24 36 16) .state .mesh ≡ record { vertices = 8; triangles = 12 }
 unfolding computed

@@ -1,14 +1,14 @@
 -- A soup welded triangle by triangle, and what it makes. Assumes nothing.
 use mathlib.Core.Path.{_≡_, sym, ap, _∙_}
-use mathlib.Core.Bool.{Bool, true, false, cond}
+use mathlib.Core.Bool.{true, false}
 use mathlib.Core.List.{List, [], _∷_}
 use Prim.Native.Nat.{ℕ, _+_, _/_}
 use lib.ListN.{length}
 use lib.Ieee.{Float}
 use Rattle.refusal.specs.declared.Refusal.{Refusal}
-use Rattle.refusal.specs.declared.Refusal.the-variants.{ShortWork}
+use Rattle.refusal.specs.declared.Refusal.the-variants.{BadList, ShortWork}
 use Rattle.mesh_balance_spec.specs.Buffer.{upto-more}
-use Rattle.mesh_spec.specs.Parts.{Soup, fromParts-one}
+use Rattle.mesh_spec.specs.Parts.{fromParts-one}
 use Rattle.mesh_made.specs.Made.{Lent, lent, shortWork}
 use Rattle.mesh_made.specs.Steps.{Makes, partsRefusal, judged}
 use Rattle.mesh_made.proofs.Ending.{makes-as}
@@ -18,7 +18,7 @@ use Rattle.weld.specs.declared.Welder.{Welder}
 use Rattle.weld.specs.Rep.{Held, held, Ready, Runs, Begun, Parted}
 use Rattle.weld.specs.Runs.{runs-none, runs-then, runs-as}
 use Rattle.weld.specs.PartsLaws.{parts-one, parts-welded}
-use Rattle.weld_from_soup.specs.Soups.{triangleAt, firstOf, soupOf, soupRefusal}
+use Rattle.weld_from_soup.specs.Soups.{triangleAt, firstOf, soupOf, brokenSoup, soupRefusal}
 
 pub first-none : (l : List Float) (h : Held) → Ready h → Runs (firstOf l 0) h h
 first-none l h R = runs-none h R
@@ -31,18 +31,25 @@ first-all l i h k e R = runs-as (ap (firstOf l) e) R
 
 -- ---- what is made
 
-pub short : (soup : Soup) (n : Lent) → shortWork (n .vertices) (n .work) ≡ true → ShortWork ≡ soupRefusal soup n
-unfolding soupRefusal
-short soup n e = rw e
+module _ (l : List Float) (n : Lent) where
+  pub short : shortWork (n .vertices) (n .work) ≡ true → ShortWork ≡ soupRefusal l n
+  unfolding soupRefusal
+  short e = rw e
+
+  pub broken : shortWork (n .vertices) (n .work) ≡ false → brokenSoup l ≡ true → BadList ≡ soupRefusal l n
+  unfolding soupRefusal
+  broken e f = rw (e, f)
+
+  -- 5 and 7
+  after-list : shortWork (n .vertices) (n .work) ≡ false → brokenSoup l ≡ false → partsRefusal (soupOf l ∷ []) n ≡ soupRefusal l n
+  unfolding soupRefusal
+  after-list e f = rw (e, f)
 
 -- us, ss, xs are the slices before the call; vs, ts, ws after the welding
-pub soup-makes : (soup : Soup) (b w r : Welder) (us vs : List Float) (ss ts xs zs ws : List ℕ) → shortWork (length us) (length xs) ≡ false
-    → Begun b us zs → Runs soup (held b us ss zs) (held w vs ts ws) → Parted w r → lent vs ts ws ≡ lent us ss xs
-    → Makes (soupRefusal soup (lent us ss xs)) (fromSoup soup) (judged r) vs ts
-unfolding soupRefusal
-soup-makes soup b w r us vs ss ts xs zs ws enough B R P l =
-    makes-as
-    (ap {B = Refusal} (partsRefusal (soup ∷ [])) l
-    ∙ sym (ap {B = Refusal} (λ (x : Bool). cond x ShortWork (partsRefusal (soup ∷ []) (lent us ss xs))) enough))
-    (fromParts-one soup)
+pub soup-makes : (l : List Float) (b w r : Welder) (us vs : List Float) (ss ts xs zs ws : List ℕ) → shortWork (length us) (length xs) ≡ false → brokenSoup l ≡ false
+    → Begun b us zs → Runs (soupOf l) (held b us ss zs) (held w vs ts ws) → Parted w r → lent vs ts ws ≡ lent us ss xs
+    → Makes (soupRefusal l (lent us ss xs)) (fromSoup (soupOf l)) (judged r) vs ts
+soup-makes l b w r us vs ss ts xs zs ws enough whole B R P e =
+    let soup = soupOf l in
+    makes-as (ap {B = Refusal} (partsRefusal (soup ∷ [])) e ∙ after-list l (lent us ss xs) enough whole) (fromParts-one soup)
     (welded-makes (soup ∷ []) (held r vs ts ws) (parts-welded (soup ∷ []) b us ss zs (held r vs ts ws) B (parts-one soup (held b us ss zs) w r vs ts ws R P)))

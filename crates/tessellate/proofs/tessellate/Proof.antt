@@ -6,6 +6,8 @@ use borrow.Author.Needs.{needs}
 use Rattle.mesh_made.specs.Made.{lent, Ending, madeAs}
 use Rattle.mesh_made.proofs.Ending.{lent-same, gives-as, makes-lie, makes-gives}
 use Rattle.tessellate_spec.specs.Outcome.{job, finalMesh, refusalOf, tessellateOf}
+use Rattle.tessellate_law.specs.Promise.{promised}
+use Rattle.tessellate.proofs.Floats.{solid-fits}
 use Rattle.tessellate.proofs.tessellate.Statement.{statement}
 use Rattle.tessellate.proofs.tessellate.Tie as tie
 
@@ -36,9 +38,10 @@ returns c =
     let lv : length (l .0) ≡ length (now (a .vertices)) = search needs in
     let lt : length (l .1 .0) ≡ length (now (a .triangles)) = search needs in
     let lw : length (l .1 .1 .0) ≡ length (now (a .work)) = search needs in
-    gives-as
+    promised j n _ _ _ _ (solid-fits (a .shape) (now (a .list)) _ (m .before .before .before .before .before .before .before .before .good .0) (m .before .before .before .before .before .before .before .shared-slice-known .given))
+    (gives-as
     (ap {B = Ending} (madeAs (refusalOf j n) (finalMesh j)) (lent-same (l .0) (now (a .vertices)) (l .1 .0) (now (a .triangles)) (l .1 .1 .0) (now (a .work)) lv lt lw))
-    (makes-gives (refusalOf j n) (finalMesh j) (m .make .result) (l .0) (l .1 .0) (l .1 .1 .0) (m .make .ensures) _ _ _ _ (e .end .ensures))
+    (makes-gives (refusalOf j n) (finalMesh j) (m .make .result) (l .0) (l .1 .0) (l .1 .1 .0) (m .make .ensures) _ _ _ _ (e .end .ensures)))
 
 pub tessellate-spec : {M : Type 1} → statement M
 tessellate-spec = tie.close (tie.spec make-requires end-requires same-length same-length-2 same-length-3 returns)

@@ -31,7 +31,7 @@ returns c =
     let e = c .before .before .before .before .before .before in
     let m = e .before .before .before .before .before .before .before .before .before .before in
     let a = m .before .before .before .before .before .before .before .before .args in
-    let soup = soupOf (now (a .soup)) in
+    let l = now (a .soup) in
     let n = lent (now (a .vertices)) (now (a .triangles)) (now (a .work)) in
     let vs = m .make .last .1 .0 in
     let ts = m .make .last .1 .1 .0 in
@@ -39,8 +39,8 @@ returns c =
     let lv : length vs ≡ length (now (a .vertices)) = search needs in
     let lt : length ts ≡ length (now (a .triangles)) = search needs in
     let lw : length ws ≡ length (now (a .work)) = search needs in
-    gives-as (ap {B = Ending} (madeAs (soupRefusal soup n) (fromSoup soup)) (lent-same vs (now (a .vertices)) ts (now (a .triangles)) ws (now (a .work)) lv lt lw))
-    (makes-gives (soupRefusal soup n) (fromSoup soup) (m .make .result) vs ts ws (m .make .ensures) _ _ _ _ (e .end .ensures))
+    gives-as (ap {B = Ending} (madeAs (soupRefusal l n) (fromSoup (soupOf l))) (lent-same vs (now (a .vertices)) ts (now (a .triangles)) ws (now (a .work)) lv lt lw))
+    (makes-gives (soupRefusal l n) (fromSoup (soupOf l)) (m .make .result) vs ts ws (m .make .ensures) _ _ _ _ (e .end .ensures))
 
 pub from-soup-spec : {M : Type 1} → statement M
 from-soup-spec =

@@ -1,0 +1,2 @@
+-- Laws that the proofs of `tessellate` use.
+pub mod Floats

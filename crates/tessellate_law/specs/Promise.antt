@@ -1,0 +1,45 @@
+-- What a call of `tessellate` promises: its outcome, and demand 3 of the mesh in the record and the slices that it leaves. Assumes nothing.
+use mathlib.Core.Path.{_≡_, sym, subst, _∙_}
+use mathlib.Core.List.{List}
+use Prim.Native.Nat.{ℕ}
+use lib.Ieee.{Float}
+use Rattle.refusal.specs.declared.Refusal.the-variants.{Accepted}
+use Rattle.mesh_spec.specs.Closed.{Closed, Proper, NoneTwice, AllThere}
+use Rattle.mesh_check.specs.State.{State, state, meshOf}
+use Rattle.mesh.specs.Lists.{Call, after, AllBring}
+use Rattle.mesh_made.specs.declared.Made.{Made}
+use Rattle.mesh_made.specs.Made.{Lent, GivesMade}
+use Rattle.tessellate_spec.specs.Outcome.{Job, tessellateOf}
+use Rattle.tessellate_law.specs.Words.{Accepts, left, FitsSolid, Solid}
+use Rattle.tessellate_law.specs.Demand3.{demand3}
+
+-- the answer r and the slices' final lists of a call with the arguments j and slices of the lengths n
+pub record Promise (j : Job) (n : Lent) (r : Made) (vs : List Float) (ts ws : List ℕ) : Type 0 where
+  -- they are those of the outcome
+  pub outcome : GivesMade (tessellateOf j n) r vs ts ws
+  -- an accepted solid of demand 3's list leaves a closed mesh
+  pub closed : r .refusal ≡ Accepted → Solid (j .shape) (j .list) → Closed (meshOf (state (r .mesh) vs ts))
+  -- whatever the accepted shape, no triangle names one vertex twice, or a vertex that isn't there
+  pub proper : r .refusal ≡ Accepted → Proper (meshOf (state (r .mesh) vs ts))
+  -- and the solid is closed after any list of calls in which each mesh appended is closed
+  pub closedAfter : r .refusal ≡ Accepted → Solid (j .shape) (j .list)
+      → (calls : List Call) → AllBring Closed calls (state (r .mesh) vs ts) → Closed (meshOf (after (state (r .mesh) vs ts) calls))
+
+-- the outcome has it, of the floats of a program
+pub promised : (j : Job) (n : Lent) (r : Made) (vs : List Float) (ts ws : List ℕ) → FitsSolid (j .shape) (j .list) → GivesMade (tessellateOf j n) r vs ts ws → Promise j n r vs ts ws
+promised j n r vs ts ws f g = record {
+  outcome = g;
+  closed = λ a s. subst (λ (x : State). Closed (meshOf x)) left-is (demand3 .closed j n (accepts a) f s);
+  proper = λ a. record {
+    noneTwice = subst (λ (x : State). NoneTwice (meshOf x)) left-is (demand3 .noneTwice j n (accepts a));
+    allThere = subst (λ (x : State). AllThere (meshOf x)) left-is (demand3 .allThere j n (accepts a));
+  };
+  closedAfter = λ a s calls.
+      subst (λ (x : State). AllBring Closed calls x → Closed (meshOf (after x calls))) left-is (demand3 .closedAfter j n (accepts a) f s calls);
+}
+  where
+    accepts : r .refusal ≡ Accepted → Accepts j n
+    accepts a = sym (g .refusal) ∙ a
+
+    left-is : left j n ≡ state (r .mesh) vs ts
+    left-is = λ i. state (sym (g .mesh) i) (sym (g .vertices) i) (sym (g .triangles) i)
