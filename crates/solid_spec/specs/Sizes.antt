@@ -92,7 +92,8 @@ unfolding partsOf cylinderSoup toCartesian cylinder tube norm normSq dot vSub sq
 cylinder-size = refl
 
 cylindrical-shell-size : sizes (CylindricalShell (at 0 0 0) (at 0 0 1) (float 2) (float 1)) [] ≡ 40 ∷ []
-unfolding partsOf cylindricalShellSoup toCartesian cylinder tube norm normSq dot vSub sqrt paramBox faces face grid axis maximum isNan lt le eq add sub mul div ofInt ofBits
+unfolding partsOf cylindricalShellSoup toCartesian cylinder tube norm normSq dot vSub sqrt paramBox faces face grid axis maximum isNan
+    lt le eq add sub mul div ofInt ofBits
 cylindrical-shell-size = refl
 
 -- a triangle: a sheet
@@ -112,5 +113,6 @@ rotated-size = refl
 
 -- three points: two tubes, and a sphere at the inner point
 wire-size : sizes (Wire (float 1)) (0 ∷ 0 ∷ 0 ∷ 0 ∷ 0 ∷ 1 ∷ 0 ∷ 1 ∷ 1 ∷ []) ≡ 40 ∷ 40 ∷ 40 ∷ []
-unfolding partsOf wireParts wireTubes wireJoints wirePoint toCartesian cylinder tube norm normSq dot vSub sqrt sphere paramBox faces face grid axis maximum isNan lt le eq add sub mul ofInt ofBits
+unfolding partsOf wireParts wireTubes wireJoints wirePoint toCartesian cylinder tube norm normSq dot vSub sqrt sphere
+    paramBox faces face grid axis maximum isNan lt le eq add sub mul ofInt ofBits
 wire-size = refl

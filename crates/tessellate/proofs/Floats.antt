@@ -11,8 +11,7 @@ use Rattle.math.proofs.Vec3 as vec3
 use Rattle.shape.specs.declared.Shape.{Shape}
 use Rattle.shape.specs.declared.Shape.the-variants.{Box, MultiBox, Sphere, SphericalShell, Cylinder, CylindricalShell, Polygon, LinPoly, RotPoly, Wire}
 use Rattle.shape.proofs.Shape as shape
-use Rattle.solid_spec.specs.Fits.{FitsV}
-use Rattle.solid_spec.specs.Fits.{FitsAll}
+use Rattle.solid_spec.specs.Fits.{FitsV, FitsAll}
 use Rattle.tessellate_law.specs.Words.{FitsSolid}
 
 point : (p : Vec3) (vs : List Val) → Is (Struct.row vec3.the-type) p vs → FitsV p

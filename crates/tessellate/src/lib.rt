@@ -27,7 +27,8 @@ fn make(
     work: &mut [u32],
 ) -> Made
     ensures { λ r. ⌜ Makes
-        (refusalOf (job shape (now (list .entry)) own default options degrees ops «op_count») (lent (now (vertices .entry)) (now (triangles .entry)) (now (work .entry))))
+        (refusalOf (job shape (now (list .entry)) own default options degrees ops «op_count»)
+        (lent (now (vertices .entry)) (now (triangles .entry)) (now (work .entry))))
         (finalMesh (job shape (now (list .entry)) own default options degrees ops «op_count»))
         r (now (vertices .exit)) (now (triangles .exit)) ⌝ }
 {

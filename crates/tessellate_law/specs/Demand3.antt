@@ -1,4 +1,5 @@
--- Demand 3 of the mission, whole and as one theorem, on the definitions that the contracts of `tessellate`, `append`, `flip` and `transform` cite. Assumes nothing.
+-- Demand 3 of the mission, whole and as one theorem, on the definitions that the contracts of `tessellate`, `append`, `flip` and `transform` cite.
+-- Assumes nothing.
 -- The words are in specs/Words.antt: `Solid` has the conditions, a line for each shape.
 use mathlib.Core.Path.{sym, subst}
 use mathlib.Core.Bool.{Bool, true, false, cond}
@@ -104,7 +105,8 @@ is-closed j n h f s =
     let cyl = cylindrical (shapeCs (j .shape) (j .own) (j .default)) in
     let b = parts-balanced cyl (j .list) (j .options) (d .segments-most) (j .shape) f (d .shape-finite) (d .list-finite) s in
     subst Closed (sym (given-final j n h))
-    (final Closed (record { empty = no-mesh-closed; appended = append-closed; flipped = flip-closed; transformed = transform-closed }) j (parts-closed (jobParts j) b (a .soup)))
+    (final Closed (record { empty = no-mesh-closed; appended = append-closed; flipped = flip-closed; transformed = transform-closed }) j
+    (parts-closed (jobParts j) b (a .soup)))
 
 is-none-twice : (j : Job) (n : Lent) → Accepts j n → NoneTwice (given j n)
 unfolding allOf

@@ -26,7 +26,8 @@ pub record Promise (j : Job) (n : Lent) (r : Made) (vs : List Float) (ts ws : Li
       → (calls : List Call) → AllBring Closed calls (state (r .mesh) vs ts) → Closed (meshOf (after (state (r .mesh) vs ts) calls))
 
 -- the outcome has it, of the floats of a program
-pub promised : (j : Job) (n : Lent) (r : Made) (vs : List Float) (ts ws : List ℕ) → FitsSolid (j .shape) (j .list) → GivesMade (tessellateOf j n) r vs ts ws → Promise j n r vs ts ws
+pub promised : (j : Job) (n : Lent) (r : Made) (vs : List Float) (ts ws : List ℕ)
+    → FitsSolid (j .shape) (j .list) → GivesMade (tessellateOf j n) r vs ts ws → Promise j n r vs ts ws
 promised j n r vs ts ws f g = record {
   outcome = g;
   closed = λ a s. subst (λ (x : State). Closed (meshOf x)) left-is (demand3 .closed j n (accepts a) f s);

@@ -8,7 +8,8 @@ use mesh_check::TriMesh;
 fn turn_outward(counts: TriMesh, vertices: &[f64], triangles: &mut [u32])
     requires { ⌜ Sound (state counts (now vertices) (now triangles)) ⌝ }
     ensures { λ _. ⌜ state counts (now (vertices .entry)) (now (triangles .exit))
-        ≡ stored (outward (meshOf (state counts (now (vertices .entry)) (now (triangles .entry))))) (state counts (now (vertices .entry)) (now (triangles .entry))) ⌝ }
+        ≡ stored (outward (meshOf (state counts (now (vertices .entry)) (now (triangles .entry)))))
+        (state counts (now (vertices .entry)) (now (triangles .entry))) ⌝ }
 {
     let k = counts.triangles;
     let volume = mesh_sums::volume_sum(vertices, triangles, k) / 6.0;
@@ -22,7 +23,8 @@ fn turn_outward(counts: TriMesh, vertices: &[f64], triangles: &mut [u32])
 pub fn turn_rotated(rotated: bool, counts: TriMesh, vertices: &[f64], triangles: &mut [u32])
     requires { ⌜ Sound (state counts (now vertices) (now triangles)) ⌝ }
     ensures { λ _. ⌜ state counts (now (vertices .entry)) (now (triangles .exit))
-        ≡ stored (outwardIf rotated (meshOf (state counts (now (vertices .entry)) (now (triangles .entry))))) (state counts (now (vertices .entry)) (now (triangles .entry))) ⌝ }
+        ≡ stored (outwardIf rotated (meshOf (state counts (now (vertices .entry)) (now (triangles .entry)))))
+        (state counts (now (vertices .entry)) (now (triangles .entry))) ⌝ }
 {
     if rotated {
         turn_outward(counts, vertices, triangles);

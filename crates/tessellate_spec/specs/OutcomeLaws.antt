@@ -20,7 +20,8 @@ use Rattle.solid_spec.specs.Solid.{outward, outwardIf, solidMesh}
 use Rattle.tessellate_spec.specs.Outcome.{Job, jobParts, weldedMesh, jobRefusal, badSoup, badVertex, refusalOf}
 
 -- ---- turning outward keeps the counts
-flips-or : (b : Bool) (m : Mesh) → (length (cond b (flip m) m .vertices) ≡ length (m .vertices)) × (length (cond b (flip m) m .triangles) ≡ length (m .triangles))
+flips-or : (b : Bool) (m : Mesh)
+    → (length (cond b (flip m) m .vertices) ≡ length (m .vertices)) × (length (cond b (flip m) m .triangles) ≡ length (m .triangles))
 unfolding flip
 flips-or true m = (refl, length-map (m .triangles) flipTri)
 flips-or false m = (refl, refl)

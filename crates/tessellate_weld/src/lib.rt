@@ -61,7 +61,8 @@ pub fn draw(
 ) -> Made
     requires { ⌜ Drawn (job shape (now list) own default options degrees ops «op_count») (length (now vertices)) (length (now work)) ⌝ }
     ensures { λ r. ⌜ Makes
-        (refusalOf (job shape (now (list .entry)) own default options degrees ops «op_count») (lent (now (vertices .entry)) (now (triangles .entry)) (now (work .entry))))
+        (refusalOf (job shape (now (list .entry)) own default options degrees ops «op_count»)
+        (lent (now (vertices .entry)) (now (triangles .entry)) (now (work .entry))))
         (finalMesh (job shape (now (list .entry)) own default options degrees ops «op_count»))
         r (now (vertices .exit)) (now (triangles .exit)) ⌝ }
 {
