@@ -1,4 +1,5 @@
 -- `solid_parts::multi_box::weld_box_part` meets its contract. Assumes nothing.
+use denote.Ref.{now}
 use native.Mathlib.Omega.{arith}
 use Rattle.solid_parts.proofs.PartRuns.{box-part}
 use Rattle.solid_parts.proofs.multi_box.weld_box_part.Statement.{statement}
@@ -39,9 +40,11 @@ same-length-3 : tie.Need-same-length-3
 same-length-3 c = c .before .before .before .before .before .before .before .weld-box-shape .ensures .wlong
 
 returns : tie.Need-returns
-returns c = box-part _ _ _ _ _ _ _ _ _ _ _ _ (c .before .before .before .before .before .before .before .before .before .before .before .before .vertex .ensures) (c .before
-    .before .before .before .before .before .before .before .before .before .before .vertex2 .ensures) (c .before .before .before .before .before .before .before
-    .weld-box-shape .ensures) (c .new-part .ensures)
+returns c =
+    let a = c .before .before .before .before .before .before .before .before .before .before .before .before .before .before .before .before .before .args in
+    let d = c .before .before .before .before .before .before .before in
+    let w = d .before .before .before .before in
+    box-part (now (a .list)) (a .i) _ _ _ _ _ _ _ _ _ _ (w .before .vertex .ensures) (w .vertex2 .ensures) (d .weld-box-shape .ensures) (c .new-part .ensures)
 
 pub weld-box-part-spec : {M : Type 1} → statement M
 weld-box-part-spec =
