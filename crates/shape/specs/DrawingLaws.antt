@@ -25,8 +25,8 @@ use Rattle.shape.specs.Drawing.{shapeCs, cylindrical, tooManySegments, i
 use Rattle.shape.specs.Drawing.{numbersBad, anglesBad, drawingRefusal}
 
 -- a drawing that passes; the angles of points count where `shapeCs` is cylindrical
-pub record AcceptedDrawing (shape : Shape) (list : List Float) (own : OwnSystem) (default : CoordSystem) (options : TessellationOptions) (ops : List TransformOp)
-    (count : ℕ) (degrees : Bool) : Type 0 where
+pub record AcceptedDrawing (shape : Shape) (list : List Float) (own : OwnSystem) (default : CoordSystem) (options : TessellationOptions)
+    (ops : List TransformOp) (count : ℕ) (degrees : Bool) : Type 0 where
   pub segments-most : options .segments ≤ 1024
   pub rings-most : options .«sphere_rings» ≤ 1024
   pub list-whole : badList (itemsOf shape) (length list) ≡ false
@@ -53,8 +53,9 @@ passed false false false true e = let no : AngleTooLarge ≡ Accepted = e in rec
 passed false false false false e = record { three = refl; four = refl; one = refl; two = refl }
 
 -- no refusal 3, 4, 1 or 2: what holds of the drawing
-pub accepted : (shape : Shape) (list : List Float) (own : OwnSystem) (default : CoordSystem) (options : TessellationOptions) (ops : List TransformOp) (count : ℕ)
-    (degrees : Bool) → drawingRefusal shape list own default options ops count degrees ≡ Accepted → AcceptedDrawing shape list own default options ops count degrees
+pub accepted : (shape : Shape) (list : List Float) (own : OwnSystem) (default : CoordSystem) (options : TessellationOptions) (ops : List TransformOp)
+    (count : ℕ) (degrees : Bool) → drawingRefusal shape list own default options ops count degrees ≡ Accepted
+    → AcceptedDrawing shape list own default options ops count degrees
 unfolding drawingRefusal tooManySegments numbersBad anglesBad
 accepted shape list own default options ops count degrees e =
     let cyl = cylindrical (shapeCs shape own default) in

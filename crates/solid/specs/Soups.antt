@@ -1,4 +1,5 @@
--- The soups of the shapes that have one part, as `partsOf` of `tessellate_spec` has them: of boxes and spheres, of cylinders, and of outlines. Definitions only.
+-- The soups of the shapes that have one part, as `partsOf` of the crate `solid_spec` has them: of boxes and spheres, of cylinders, and of outlines.
+-- Definitions only.
 use mathlib.Core.Bool.{Bool}
 use mathlib.Core.List.{List, []}
 use Prim.Native.Nat.{ℕ}

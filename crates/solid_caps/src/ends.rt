@@ -69,7 +69,8 @@ fn weld_caps(
 ) -> Welder
     requires { ⌜ Ready (held w (now vertices) (now triangles) (now work)) ⌝ }
     requires { ⌜ CapsWithin (now corners) s (now rows) (now cols) near × CapsWithin (now corners) s (now rows) (now cols) far ⌝ }
-    ensures { λ r. ⌜ Runs (capsOf both (λ i. surfaceAt (now (corners .entry)) s i near) (λ i. surfaceAt (now (corners .entry)) s i far) (tris (now (caps .entry))))
+    ensures { λ r. ⌜ Runs
+        (capsOf both (λ i. surfaceAt (now (corners .entry)) s i near) (λ i. surfaceAt (now (corners .entry)) s i far) (tris (now (caps .entry))))
         (held w (now (vertices .entry)) (now (triangles .entry)) (now (work .entry)))
         (held r (now (vertices .exit)) (now (triangles .exit)) (now (work .exit))) ⌝ }
 {
@@ -118,7 +119,8 @@ pub fn weld_ends(
 ) -> Welder
     requires { ⌜ Ready (held w (now vertices) (now triangles) (now work)) ⌝ }
     requires { ⌜ (length (now p) ≤ 1024) × CapsWithin (now p) s (now rows) (now cols) near × CapsWithin (now p) s (now rows) (now cols) far ⌝ }
-    ensures { λ r. ⌜ Runs (capsOf both (λ i. surfaceAt (now (p .entry)) s i near) (λ i. surfaceAt (now (p .entry)) s i far) (Polygons.capTriangles (now (p .entry))))
+    ensures { λ r. ⌜ Runs
+        (capsOf both (λ i. surfaceAt (now (p .entry)) s i near) (λ i. surfaceAt (now (p .entry)) s i far) (Polygons.capTriangles (now (p .entry))))
         (held w (now (vertices .entry)) (now (triangles .entry)) (now (work .entry)))
         (held r (now (vertices .exit)) (now (triangles .exit)) (now (work .exit))) ⌝ }
 {

@@ -35,7 +35,8 @@ fn weld_tube_part(
 ) -> Welder
     requires { ⌜ Ready (held w (now vertices) (now triangles) (now work)) ⌝ }
     requires { ⌜ (segments ≤ 1024) × (3 * i + 6 ≤ length (now list)) ⌝ }
-    ensures { λ k. ⌜ PartsRun (cylinder (wirePoint cylindrical (now (list .entry)) i) (wirePoint cylindrical (now (list .entry)) (i + 1)) plusZero r segments ∷ [])
+    ensures { λ k. ⌜ PartsRun
+        (cylinder (wirePoint cylindrical (now (list .entry)) i) (wirePoint cylindrical (now (list .entry)) (i + 1)) plusZero r segments ∷ [])
         (held w (now (vertices .entry)) (now (triangles .entry)) (now (work .entry)))
         (held k (now (vertices .exit)) (now (triangles .exit)) (now (work .exit))) ⌝ }
 {

@@ -40,7 +40,8 @@ pub record Filled (t : Turns) (n : ℕ) (tab : List Float) : Type 0 where
   pub long : 2 * n + 2 ≤ length tab
   pub holds : (k : ℕ) → k ≤ n → entry tab k ≡ turnAt t k
 
--- the tables that a face of a parameter box on axis k reads where its middle axis is an angle: by rows for k = 0, by columns for k = 2; for k = 1 the angle is the face's own
+-- the tables that a face of a parameter box on axis k reads where its middle axis is an angle: by rows for k = 0, by columns for k = 2;
+-- for k = 1 the angle is the face's own
 abbrev pub RoundTabled : ℕ → Line → Line → List Float → List Float → ℕ → ℕ → Type 0
 RoundTabled zero u v rows cols i j = Filled (OnLine u) i rows
 RoundTabled (suc zero) u v rows cols i j = Unit

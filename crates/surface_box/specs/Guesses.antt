@@ -28,7 +28,9 @@ numbersFrom base a b c d = record { a = base + a; b = base + b; c = base + c; d 
 
 -- the numbers of the points of the face on the axis k
 abbrev pub guessesAt : ℕ → ℕ → ℕ → FourNumbers
-guessesAt base k s = numbersFrom base (cornerNumber (corner k s 0 0)) (cornerNumber (corner k s s (1 - s))) (cornerNumber (corner k s 1 1)) (cornerNumber (corner k s (1 - s) s))
+guessesAt base k s =
+    numbersFrom base (cornerNumber (corner k s 0 0)) (cornerNumber (corner k s s (1 - s))) (cornerNumber (corner k s 1 1))
+    (cornerNumber (corner k s (1 - s) s))
 
 -- the numbers of the points of face f of six: 2 k is the low one of the axis k, 2 k + 1 the high one
 abbrev pub guessesOf : ℕ → ℕ → FourNumbers

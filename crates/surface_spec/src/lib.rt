@@ -1,4 +1,5 @@
-// The types of a surface, for code that takes one by cases. No functions: the definition of each surface's points, and how the grids of the solids are grids over surfaces.
+// The types of a surface, for code that takes one by cases. No functions: the specs have the points of each surface, and the proofs that the grids of
+// the solids are grids over surfaces.
 use math::Vec3;
 
 // An axis of a parameter box from lo to hi, cut into n parts; a periodic one ends where it starts.
