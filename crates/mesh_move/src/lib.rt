@@ -86,7 +86,7 @@ pub fn stay_finite(vertices: &[f64], n: usize, a: Mat4) -> bool
 }
 
 // Puts the first n vertices under the matrix.
-pub fn move_all(vertices: &mut [f64], n: usize, a: Mat4)
+fn move_all(vertices: &mut [f64], n: usize, a: Mat4)
     requires { ⌜ 3 * n ≤ length (now vertices) ⌝ }
     ensures { λ _. ⌜ now (vertices .exit) ≡ eachTo (movedTriple a) n (now (vertices .entry)) ⌝ }
 {

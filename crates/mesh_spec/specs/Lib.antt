@@ -8,9 +8,9 @@ pub mod Measures
 pub mod SliceLaws
 pub mod WeldLaws
 pub mod SelfSame
-pub mod Welded
 pub mod EdgeLaws
 pub mod ProperLaws
+pub mod Welded
 pub mod ClosedLaws
 pub mod ClosedExamples
 pub mod Parts

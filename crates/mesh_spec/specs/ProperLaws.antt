@@ -19,7 +19,7 @@ use Rattle.mesh_spec.specs.EdgeLaws.{eqb-shift}
 
 -- ---- tests of every triangle
 module _ (k : Tri ℕ → Bool) where
-  all-append : (xs ys : List (Tri ℕ)) → T (allOf k xs) → T (allOf k ys) → T (allOf k (xs ++ ys))
+  pub all-append : (xs ys : List (Tri ℕ)) → T (allOf k xs) → T (allOf k ys) → T (allOf k (xs ++ ys))
   unfolding allOf
   all-append [] ys s t = t
   all-append (x ∷ xs) ys s t = and-i (k x) (allOf k (xs ++ ys)) (and-l (k x) (allOf k xs) s) (all-append xs ys (and-r (k x) (allOf k xs) s) t)
@@ -31,7 +31,7 @@ module _ (k : Tri ℕ → Bool) where
   all-map j f h (t ∷ ts) s = and-i (k (f t)) (allOf k (map f ts)) (h t (and-l (j t) (allOf j ts) s)) (all-map j f h ts (and-r (j t) (allOf j ts) s))
 
 module _ (k : Tri ℕ → Bool) where
-  all-weaken : (j : Tri ℕ → Bool) → ((t : Tri ℕ) → T (j t) → T (k t)) → (ts : List (Tri ℕ)) → T (allOf j ts) → T (allOf k ts)
+  pub all-weaken : (j : Tri ℕ → Bool) → ((t : Tri ℕ) → T (j t) → T (k t)) → (ts : List (Tri ℕ)) → T (allOf j ts) → T (allOf k ts)
   unfolding allOf
   all-weaken j h [] s = tt
   all-weaken j h (t ∷ ts) s = and-i (k t) (allOf k ts) (h t (and-l (j t) (allOf j ts) s)) (all-weaken j h ts (and-r (j t) (allOf j ts) s))
@@ -41,7 +41,7 @@ distinct-up : (n : ℕ) (t : Tri ℕ) → T (distinct t) → T (distinct (mapTri
 distinct-up n t s = rw (eqb-shift n (t .0) (t .1), eqb-shift n (t .1) (t .2), eqb-shift n (t .0) (t .2)) s
 
 module _ (n : ℕ) (t : Tri ℕ) where
-  there : t .0 < n → t .1 < n → t .2 < n → T (below n t)
+  pub there : t .0 < n → t .1 < n → t .2 < n → T (below n t)
   there h k l = and-i (ltb (t .0) n && ltb (t .1) n) (ltb (t .2) n) (and-i (ltb (t .0) n) (ltb (t .1) n) (lt→ltb (t .0) n h) (lt→ltb (t .1) n k)) (lt→ltb (t .2) n l)
 
   at0 : T (below n t) → t .0 < n
@@ -53,7 +53,7 @@ module _ (n : ℕ) (t : Tri ℕ) where
   at2 : T (below n t) → t .2 < n
   at2 s = ltb→lt (t .2) n (and-r (ltb (t .0) n && ltb (t .1) n) (ltb (t .2) n) s)
 
-below-more : (n m : ℕ) → n ≤ m → (t : Tri ℕ) → T (below n t) → T (below m t)
+pub below-more : (n m : ℕ) → n ≤ m → (t : Tri ℕ) → T (below n t) → T (below m t)
 below-more n m h t s = there m t (omega (arith, at0 n t s)) (omega (arith, at1 n t s)) (omega (arith, at2 n t s))
 
 below-up : (n m k : ℕ) → k ≡ n + m → (t : Tri ℕ) → T (below m t) → T (below k (mapTri (λ i. i + n) t))

@@ -4,11 +4,10 @@ use mathlib.Core.Logic.{_⊎_, inl, inr}
 use mathlib.Core.Bool.{Bool, true, false, not, _&&_, cond, true≢false}
 use mathlib.Core.List.{List, [], _∷_, _++_, map, append-nil, append-assoc}
 use Prim.Native.Nat.{ℕ, _≤_, _<_}
-use native.Mathlib.Nat.{le-trans}
 use native.Mathlib.Omega.{arith}
 use lib.ListN.{length}
-use lib.Dec.{T, eqb, ltb, ltb→lt, lt→ltb}
-use lib.Ieee.Fits.{and-l, and-r, and-i}
+use lib.Dec.{T, eqb}
+use lib.Ieee.Fits.{and-i}
 use borrow.Author.Tests.{eqb-true}
 use Rattle.ieee.specs.Same.{true-T, T-true}
 use Rattle.math.specs.declared.Vec3.{Vec3}
@@ -17,37 +16,17 @@ use Rattle.mesh_balance_spec.specs.Count.{EdgesBalance, keepIf, welded-edges}
 use Rattle.math.specs.Vec.{vFinite}
 use Rattle.mesh_spec.specs.Mesh.{Mesh, noMesh, plusZeroV, samePoint, firstSight, withPoint, distinct, weldTriangle, weldSoup, fromSoup, everyFinite}
 use Rattle.mesh_spec.specs.Closed.{allOf, below, Closed, Proper}
+use Rattle.mesh_spec.specs.ProperLaws.{all-append, all-weaken, there, below-more}
 use Rattle.mesh_spec.specs.WeldLaws.{with-longer, with-front, sight-stays, sight-with, sight-there}
 use Rattle.mesh_spec.specs.SelfSame.{same-self}
 
 -- ---- proper
 module _ (j k : Tri ℕ → Bool) (weaker : (t : Tri ℕ) → T (j t) → T (k t)) where
-  -- a test that every triangle passes is made weaker, and one triangle more passes it
-  all-more : (ts : List (Tri ℕ)) (t : Tri ℕ) → T (allOf j ts) → T (k t) → T (allOf k (ts ++ (t ∷ [])))
-  unfolding allOf
-  all-more [] t s h = and-i (k t) true h tt
-  all-more (x ∷ ts) t s h =
-      and-i (k x) (allOf k (ts ++ (t ∷ []))) (weaker x (and-l (j x) (allOf j ts) s)) (all-more ts t (and-r (j x) (allOf j ts) s) h)
-
-  all-weaker : (ts : List (Tri ℕ)) → T (allOf j ts) → T (allOf k ts)
-  unfolding allOf
-  all-weaker [] s = tt
-  all-weaker (x ∷ ts) s = and-i (k x) (allOf k ts) (weaker x (and-l (j x) (allOf j ts) s)) (all-weaker ts (and-r (j x) (allOf j ts) s))
-
+  -- a test that every triangle passes is made weaker, and the triangle passes it where it is kept
   all-offered : (ts : List (Tri ℕ)) (t : Tri ℕ) (b : Bool) → T (allOf j ts) → (T b → T (k t)) → T (allOf k (cond b (ts ++ (t ∷ [])) ts))
-  all-offered ts t true s h = all-more ts t s (h tt)
-  all-offered ts t false s h = all-weaker ts s
-
-there : (n : ℕ) (t : Tri ℕ) → t .0 < n → t .1 < n → t .2 < n → T (below n t)
-there n t h k l = and-i (ltb (t .0) n && ltb (t .1) n) (ltb (t .2) n) (and-i (ltb (t .0) n) (ltb (t .1) n) (lt→ltb (t .0) n h) (lt→ltb (t .1) n k)) (lt→ltb (t .2) n l)
-
-below-more : (m n : ℕ) → m ≤ n → (t : Tri ℕ) → T (below m t) → T (below n t)
-below-more m n l t s =
-    let p : Bool = ltb (t .0) m in
-    let q : Bool = ltb (t .1) m in
-    let r : Bool = ltb (t .2) m in
-    let ab : T (p && q) = and-l (p && q) r s in
-    there n t (le-trans (ltb→lt (t .0) m (and-l p q ab)) l) (le-trans (ltb→lt (t .1) m (and-r p q ab)) l) (le-trans (ltb→lt (t .2) m (and-r (p && q) r s)) l)
+  unfolding allOf
+  all-offered ts t true s h = all-append k ts (t ∷ []) (all-weaken k j weaker ts s) (and-i (k t) true (h tt) tt)
+  all-offered ts t false s h = all-weaken k j weaker ts s
 
 triangle-proper : (S : Mesh) (t : Tri Vec3) → Proper S → Proper (weldTriangle S t)
 unfolding weldTriangle

@@ -110,7 +110,7 @@ copy-up-requires c κs =
     let r = c .before .before .before .before .before .before .before .append-refusal in
     let h : isAccepted (r .result) ≡ true = sym (c .before .before .before .before .before .before .is-accepted .ensures) ∙ not-false _ (c .before .before .before .before .before .if1 .left) in
     let w = appends s o (r .result) (r .ensures) h in
-    (omega (arith, w .triangles), omega (arith, w .fine .triangles), w .fits)
+    (omega (arith, w .triangles), omega (arith, w .fine .triangles), λ i q. w .fits i (omega arith))
 
 add-t22 : tie.Need-add-t22
 add-t22 c =
