@@ -1,5 +1,6 @@
 -- docs/SCOPE.md, "Lists of calls": what holds of a mesh after any list of appends, flips and transforms, refused ones included.
--- The calls are those that the contracts of `append`, `flip` and `transform` cite. Assumes nothing; counts beyond the slices need no exception, since check 8 refuses then.
+-- The calls are those that the contracts of `append`, `flip` and `transform` cite. Assumes nothing.
+-- Counts beyond the slices need no exception, since check 8 refuses then.
 use mathlib.Core.Path.{_≡_, refl, sym, subst}
 use mathlib.Core.Bool.{Bool, true, false, cond}
 use mathlib.Core.List.{List, [], _∷_}

@@ -67,7 +67,9 @@ pub fn transform(
     op_count: usize,
     degrees: bool,
 ) -> Edited
-    ensures { λ r. ⌜ GivesEdit (transformOf ops «op_count» degrees (state mesh (now (vertices .entry)) (now (triangles .entry)))) r (now (vertices .exit)) (now (triangles .exit)) ⌝ }
+    ensures { λ r. ⌜ GivesEdit
+        (transformOf ops «op_count» degrees (state mesh (now (vertices .entry)) (now (triangles .entry))))
+        r (now (vertices .exit)) (now (triangles .exit)) ⌝ }
 {
     let refusal = mesh_refusals::transform_refusal(
         mesh,

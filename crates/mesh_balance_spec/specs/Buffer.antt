@@ -43,4 +43,6 @@ module _ {P : Type 0} where
   length-upto (suc n) m h e = omega (arith, length-upto n m h e, e n, length-append (upto n h) (h n))
 
   pub length-cells : (nu nv : ℕ) (f : ℕ → ℕ → P) → length (cells nu nv f) ≡ 2 * nu * nv
-  length-cells nu nv f = omega (arith, length-upto nu (nv * 2) (λ i. upto nv (λ j. quad (f i j) (f (suc i) j) (f (suc i) (suc j)) (f i (suc j)))) (λ i. length-upto nv 2 (λ j. quad (f i j) (f (suc i) j) (f (suc i) (suc j)) (f i (suc j))) (λ j. refl)))
+  length-cells nu nv f =
+      let cell : ℕ → ℕ → List (Tri P) = λ i j. quad (f i j) (f (suc i) j) (f (suc i) (suc j)) (f i (suc j)) in
+      omega (arith, length-upto nu (nv * 2) (λ i. upto nv (cell i)) (λ i. length-upto nv 2 (cell i) (λ j. refl)))

@@ -62,5 +62,6 @@ pub balanced-edges : (ts : List (Tri ℕ)) → Balanced ts → EdgesBalance ts
 balanced-edges ts p u v = uses-sum u v ts ∙ p (here u v) ∙ ap (λ w. sum w ts) (sym (here-rev u v)) ∙ sym (uses-sum v u ts)
 
 -- the corners are numbered by any function, equal numbers or not, and of the triangles that lose a corner by that any may be dropped
-pub welded-edges : {P : Type 0} (k : Tri ℕ → Bool) → ((t : Tri ℕ) → k t ≡ false → Flat t) → (f : P → ℕ) (ts : List (Tri P)) → Balanced ts → EdgesBalance (keepIf k (map (mapTri f) ts))
+pub welded-edges : {P : Type 0} (k : Tri ℕ → Bool) → ((t : Tri ℕ) → k t ≡ false → Flat t) → (f : P → ℕ) (ts : List (Tri P))
+    → Balanced ts → EdgesBalance (keepIf k (map (mapTri f) ts))
 welded-edges k flat f ts p = balanced-edges (keepIf k (map (mapTri f) ts)) (balanced-keep k flat (map (mapTri f) ts) (balanced-map f ts p))

@@ -99,7 +99,8 @@ module _ {P : Type 0} where
       torus nu nv (λ i j. p (i % nu) (j % nv)) (λ i l. ap (p (i % nu)) (mod-self nv ∙ sym (zero-mod nv)))
       (λ j l. ap (λ k. p k (j % nv)) (mod-self nu ∙ sym (zero-mod nu)))
 
-  pub sphere : (nu nv : ℕ) (f : ℕ → ℕ → P) (s n : P) → ((i : ℕ) → i ≤ nu → f i nv ≡ f i 0) → ((j : ℕ) → j ≤ nv → f 0 j ≡ s) → ((j : ℕ) → j ≤ nv → f nu j ≡ n) → Balanced (cells nu nv f)
+  pub sphere : (nu nv : ℕ) (f : ℕ → ℕ → P) (s n : P) → ((i : ℕ) → i ≤ nu → f i nv ≡ f i 0) → ((j : ℕ) → j ≤ nv → f 0 j ≡ s)
+      → ((j : ℕ) → j ≤ nv → f nu j ≡ n) → Balanced (cells nu nv f)
   sphere nu nv f s n p q r w =
       omega (
         arith,

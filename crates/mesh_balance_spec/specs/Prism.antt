@@ -74,7 +74,8 @@ module _ {P : Type 0} where
   pub prismOf-balanced : (m : ℕ) (caps : List (Tri ℕ)) (lo hi : ℕ → P) → Bounds caps (cycle m) → Balanced (prismOf m caps lo hi)
   prismOf-balanced m caps lo hi b =
       rw (same-sides m lo hi)
-      (prism-balanced (λ i. i % suc m) (suc m) caps lo hi (mod-self (suc m) ∙ sym (zero-mod (suc m))) (λ w. omega (arith, b w, cycle-mod m w, cycle-mod m (rev w))))
+      (prism-balanced (λ i. i % suc m) (suc m) caps lo hi (mod-self (suc m) ∙ sym (zero-mod (suc m)))
+      (λ w. omega (arith, b w, cycle-mod m w, cycle-mod m (rev w))))
 
 -- the fan from corner 0: n triangles, the corners 0 .. n + 1
 abbrev pub fan : ℕ → List (Tri ℕ)

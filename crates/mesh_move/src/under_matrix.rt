@@ -31,7 +31,8 @@ pub fn move_mesh(
 )
     requires { ⌜ MovableMesh (state counts (now vertices) (now triangles)) finite ⌝ }
     ensures { λ _. ⌜ state counts (now (vertices .exit)) (now (triangles .exit))
-        ≡ stored (transform a (meshOf (state counts (now (vertices .entry)) (now (triangles .entry))))) (state counts (now (vertices .entry)) (now (triangles .entry))) ⌝ }
+        ≡ stored (transform a (meshOf (state counts (now (vertices .entry)) (now (triangles .entry)))))
+        (state counts (now (vertices .entry)) (now (triangles .entry))) ⌝ }
 {
     let n = counts.vertices;
     let k = counts.triangles;

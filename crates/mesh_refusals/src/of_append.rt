@@ -14,7 +14,9 @@ pub fn append_refusal(
     other_vertices: &[f64],
     other_triangles: &[u32],
 ) -> Refusal
-    ensures { λ r. ⌜ r ≡ appendRefusal (state mesh (now (vertices .entry)) (now (triangles .entry))) (state other (now («other_vertices» .entry)) (now («other_triangles» .entry))) ⌝ }
+    ensures { λ r. ⌜ r
+        ≡ appendRefusal (state mesh (now (vertices .entry)) (now (triangles .entry)))
+        (state other (now («other_vertices» .entry)) (now («other_triangles» .entry))) ⌝ }
 {
     let n = mesh.vertices;
     let k = mesh.triangles;

@@ -42,9 +42,17 @@ pub twice-not-closed : Closed (overFour ((0, 1, 0) ∷ [])) → ⊥
 unfolding allOf
 twice-not-closed c = c .noneTwice
 
-pub any-twice : (NoneTwice (overFour ((1, 1, 0) ∷ [])) → ⊥) × (NoneTwice (overFour ((0, 1, 1) ∷ [])) → ⊥) × (NoneTwice (overFour ((0, 1, 2) ∷ (2, 3, 2) ∷ [])) → ⊥)
+pub first-two-same : NoneTwice (overFour ((1, 1, 0) ∷ [])) → ⊥
 unfolding allOf
-any-twice = (λ h. h, λ h. h, λ h. h)
+first-two-same h = h
+
+pub last-two-same : NoneTwice (overFour ((0, 1, 1) ∷ [])) → ⊥
+unfolding allOf
+last-two-same h = h
+
+pub second-triangle-twice : NoneTwice (overFour ((0, 1, 2) ∷ (2, 3, 2) ∷ [])) → ⊥
+unfolding allOf
+second-triangle-twice h = h
 
 -- two triangles back to back that name vertex 4, which is not there
 beyond : Balanced {P = ℕ} ((0, 1, 4) ∷ (1, 0, 4) ∷ [])
@@ -61,6 +69,14 @@ pub beyond-not-closed : Closed (overFour ((0, 1, 4) ∷ (1, 0, 4) ∷ [])) → �
 unfolding allOf
 beyond-not-closed c = c .allThere
 
-pub any-beyond : (AllThere (overFour ((4, 1, 0) ∷ [])) → ⊥) × (AllThere (overFour ((0, 4, 1) ∷ [])) → ⊥) × (AllThere (overFour ((0, 1, 2) ∷ (1, 2, 4) ∷ [])) → ⊥)
+pub first-beyond : AllThere (overFour ((4, 1, 0) ∷ [])) → ⊥
 unfolding allOf
-any-beyond = (λ h. h, λ h. h, λ h. h)
+first-beyond h = h
+
+pub second-beyond : AllThere (overFour ((0, 4, 1) ∷ [])) → ⊥
+unfolding allOf
+second-beyond h = h
+
+pub second-triangle-beyond : AllThere (overFour ((0, 1, 2) ∷ (1, 2, 4) ∷ [])) → ⊥
+unfolding allOf
+second-triangle-beyond h = h

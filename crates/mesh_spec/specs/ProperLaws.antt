@@ -42,7 +42,9 @@ distinct-up n t s = rw (eqb-shift n (t .0) (t .1), eqb-shift n (t .1) (t .2), eq
 
 module _ (n : ℕ) (t : Tri ℕ) where
   pub there : t .0 < n → t .1 < n → t .2 < n → T (below n t)
-  there h k l = and-i (ltb (t .0) n && ltb (t .1) n) (ltb (t .2) n) (and-i (ltb (t .0) n) (ltb (t .1) n) (lt→ltb (t .0) n h) (lt→ltb (t .1) n k)) (lt→ltb (t .2) n l)
+  there h k l =
+      and-i (ltb (t .0) n && ltb (t .1) n) (ltb (t .2) n) (and-i (ltb (t .0) n) (ltb (t .1) n) (lt→ltb (t .0) n h) (lt→ltb (t .1) n k))
+      (lt→ltb (t .2) n l)
 
   at0 : T (below n t) → t .0 < n
   at0 s = ltb→lt (t .0) n (and-l (ltb (t .0) n) (ltb (t .1) n) (and-l (ltb (t .0) n && ltb (t .1) n) (ltb (t .2) n) s))
@@ -83,7 +85,8 @@ pub append-none-twice : (m o : Mesh) → NoneTwice m → NoneTwice o → NoneTwi
 unfolding append
 append-none-twice m o s t =
     let n = length (m .vertices) in
-    all-append distinct (m .triangles) (map (mapTri (λ i. i + n)) (o .triangles)) s (all-map distinct distinct (mapTri (λ i. i + n)) (distinct-up n) (o .triangles) t)
+    all-append distinct (m .triangles) (map (mapTri (λ i. i + n)) (o .triangles)) s
+    (all-map distinct distinct (mapTri (λ i. i + n)) (distinct-up n) (o .triangles) t)
 
 pub flip-none-twice : (m : Mesh) → NoneTwice m → NoneTwice (flip m)
 unfolding flip

@@ -28,7 +28,8 @@ odd-real d s (suc q) k l = tt
 
 units-real : (f : Format) (s : Bool) (q k : ℕ) → T (not (isNan (units f s q k)))
 unfolding units isNan
-units-real f s q k = cond-real (ltb (q * 2 ^ k) (2 ^ (low f + suc (emax f)))) (odd (suc (prec f)) s q k (low f)) (inf s) (odd-real (suc (prec f)) s q k (low f)) tt
+units-real f s q k =
+    cond-real (ltb (q * 2 ^ k) (2 ^ (low f + suc (emax f)))) (odd (suc (prec f)) s q k (low f)) (inf s) (odd-real (suc (prec f)) s q k (low f)) tt
 
 round-real : (f : Format) (s : Bool) (n d : ℕ) → T (not (isNan (round f s n d)))
 unfolding round
@@ -47,7 +48,8 @@ plus-real f (inf s) h = absurd h
 plus-real f (fin s m e) h = sum-real f s _ false _ _
 
 plus-self : (x : Float) → T (finite x) → T (eq (add binary64 x (ofBits binary64 0)) (add binary64 x (ofBits binary64 0)))
-plus-self x h = eq-refl (add binary64 x (ofBits binary64 0)) (subst (λ (z : Float). T (not (isNan (add binary64 x z)))) (sym zero-bits) (plus-real binary64 x h))
+plus-self x h =
+    eq-refl (add binary64 x (ofBits binary64 0)) (subst (λ (z : Float). T (not (isNan (add binary64 x z)))) (sym zero-bits) (plus-real binary64 x h))
 
 pub same-self : (p : Vec3) → vFinite p ≡ true → samePoint (plusZeroV p) (plusZeroV p) ≡ true
 unfolding samePoint plusZeroV

@@ -21,18 +21,21 @@ module _ (p d : Vec3) where
   at-step n m b e h = rw (e, h)
 
   -- a vertex that equals p, with none before it that does, is the first
-  pub sight-at : (us : List Vec3) (m : ℕ) → m < length us → samePoint (getD us m d) p ≡ true → ((j : ℕ) → j < m → samePoint (getD us j d) p ≡ true → ⊥) → firstSight us p ≡ m
+  pub sight-at : (us : List Vec3) (m : ℕ) → m < length us → samePoint (getD us m d) p ≡ true
+      → ((j : ℕ) → j < m → samePoint (getD us j d) p ≡ true → ⊥) → firstSight us p ≡ m
   unfolding firstSight
   sight-at [] m l s f = absurd (not-suc-le-zero l)
   sight-at (v ∷ us) zero l s f = rw s
   sight-at (v ∷ us) (suc m) l s f =
-      at-step (firstSight us p) m (samePoint v p) (false-unless (samePoint v p) (f zero (omega arith))) (sight-at us m (le-of-suc-le-suc l) s (λ j k. f (suc j) (suc-le-suc k)))
+      at-step (firstSight us p) m (samePoint v p) (false-unless (samePoint v p) (f zero (omega arith)))
+      (sight-at us m (le-of-suc-le-suc l) s (λ j k. f (suc j) (suc-le-suc k)))
 
   pub sight-none : (us : List Vec3) → ((m : ℕ) → m < length us → samePoint (getD us m d) p ≡ true → ⊥) → firstSight us p ≡ length us
   unfolding firstSight
   sight-none [] f = refl
   sight-none (v ∷ us) f =
-      at-step (firstSight us p) (length us) (samePoint v p) (false-unless (samePoint v p) (f zero (omega arith))) (sight-none us (λ m k. f (suc m) (suc-le-suc k)))
+      at-step (firstSight us p) (length us) (samePoint v p) (false-unless (samePoint v p) (f zero (omega arith)))
+      (sight-none us (λ m k. f (suc m) (suc-le-suc k)))
 
 -- p is a vertex already
 pub with-seen : (us : List Vec3) (p : Vec3) → firstSight us p < length us → withPoint us p ≡ us

@@ -44,7 +44,8 @@ triangle-proper S t P =
     let lc : length ub ≤ length uc = with-longer ub c in
     record {
       noneTwice = all-offered distinct distinct (λ x h. h) (S .triangles) ids (distinct ids) (P .noneTwice) (λ h. h);
-      allThere = all-offered (below (length us)) (below (length uc)) (below-more (length us) (length uc) (omega arith)) (S .triangles) ids (distinct ids) (P .allThere)
+      allThere = all-offered (below (length us)) (below (length uc)) (below-more (length us) (length uc) (omega arith))
+          (S .triangles) ids (distinct ids) (P .allThere)
           (λ h. there (length uc) ids (omega (arith, sight-there us a)) (omega (arith, sight-there ua b)) (sight-there ub c));
     }
 
@@ -65,7 +66,10 @@ record Front (us vs : List Vec3) : Type 0 where
   splits : vs ≡ us ++ rest
 
 front-then : {us vs ws : List Vec3} → Front us vs → Front vs ws → Front us ws
-front-then {us} f g = record { rest = f .rest ++ g .rest; splits = g .splits ∙ ap (λ (l : List Vec3). l ++ g .rest) (f .splits) ∙ append-assoc us (f .rest) (g .rest) }
+front-then {us} f g = record {
+  rest = f .rest ++ g .rest;
+  splits = g .splits ∙ ap (λ (l : List Vec3). l ++ g .rest) (f .splits) ∙ append-assoc us (f .rest) (g .rest);
+}
 
 front-with : (us : List Vec3) (p : Vec3) → Front us (withPoint us p)
 front-with us p = let f = with-front us p in record { rest = f .0; splits = f .1 }
@@ -149,8 +153,13 @@ welded-triangles S (t ∷ soup) h =
 fromSoup-edges : (soup : List (Tri Vec3)) → Balanced (map (mapTri plusZeroV) soup) → everyFinite soup ≡ true → EdgesBalance (fromSoup soup .triangles)
 unfolding fromSoup
 fromSoup-edges soup p e =
-    subst EdgesBalance (sym (welded-triangles noMesh soup e)) (welded-edges distinct not-distinct (firstSight (weldSoup noMesh soup .vertices)) (map (mapTri plusZeroV) soup) p)
+    subst EdgesBalance (sym (welded-triangles noMesh soup e))
+    (welded-edges distinct not-distinct (firstSight (weldSoup noMesh soup .vertices)) (map (mapTri plusZeroV) soup) p)
 
 -- and a closed mesh
 pub fromSoup-closed : (soup : List (Tri Vec3)) → Balanced (map (mapTri plusZeroV) soup) → everyFinite soup ≡ true → Closed (fromSoup soup)
-fromSoup-closed soup p e = record { edgesBalance = fromSoup-edges soup p e; noneTwice = fromSoup-proper soup .noneTwice; allThere = fromSoup-proper soup .allThere }
+fromSoup-closed soup p e = record {
+  edgesBalance = fromSoup-edges soup p e;
+  noneTwice = fromSoup-proper soup .noneTwice;
+  allThere = fromSoup-proper soup .allThere;
+}
