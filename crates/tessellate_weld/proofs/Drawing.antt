@@ -45,7 +45,7 @@ module _ (j : Job) (n : Lent) (made : Made) (vs : List Float) (ts : List ℕ) wh
       subst (λ (b : Bool). Makes (partsRefusal (partsOf b (j .shape) (j .list) (j .options)) n) (fromParts (partsOf b (j .shape) (j .list) (j .options))) made vs ts)
       (f ∙ ap {B = Bool} cylindrical e) M
 
-  module _ (D : Drawn j (n .vertices) (n .work)) (M : Makes (partsRefusal (jobParts j) n) (fromParts (jobParts j)) made vs ts) where
+  module _ (D : Drawn j n) (M : Makes (partsRefusal (jobParts j) n) (fromParts (jobParts j)) made vs ts) where
     -- refused: 5 or 7
     pub parts-refused : isAccepted (made .refusal) ≡ false → Makes (refusalOf j n) (finalMesh j) made vs ts
     unfolding orElse

@@ -2,14 +2,14 @@
 use mathlib.Core.Path.{_≡_}
 use mathlib.Core.Bool.{false}
 use mathlib.Core.List.{List}
-use Prim.Native.Nat.{ℕ, _≤_}
+use Prim.Native.Nat.{_≤_}
 use lib.ListN.{length}
 use lib.Ieee.{Float}
 use Rattle.refusal.specs.declared.Refusal.the-variants.{Accepted}
 use Rattle.shape.specs.declared.Shape.{Shape}
 use Rattle.shape.specs.declared.TessellationOptions.{TessellationOptions}
 use Rattle.shape.specs.Drawing.{badList, itemsOf}
-use Rattle.mesh_made.specs.Made.{shortWork}
+use Rattle.mesh_made.specs.Made.{Lent, shortWork}
 use Rattle.tessellate_spec.specs.Outcome.{Job, jobRefusal}
 
 -- what the welding of a shape rests on: docs/SCOPE.md's refusals 3 and 4 do not apply
@@ -18,7 +18,7 @@ pub record Drawable (shape : Shape) (list : List Float) (options : TessellationO
   pub rings : options .«sphere_rings» ≤ 1024
   pub items : badList (itemsOf shape) (length list) ≡ false
 
--- refusals 6, 3, 4, 1 and 2 do not apply, for slices of so many floats and numbers of work
-pub record Drawn (j : Job) (vertices work : ℕ) : Type 0 where
-  pub work : shortWork vertices work ≡ false
+-- refusals 6, 3, 4, 1 and 2 do not apply, for slices of the lengths n
+pub record Drawn (j : Job) (n : Lent) : Type 0 where
+  pub work : shortWork (n .vertices) (n .work) ≡ false
   pub drawing : jobRefusal j ≡ Accepted

@@ -59,7 +59,7 @@ pub fn draw(
     triangles: &mut [u32],
     work: &mut [u32],
 ) -> Made
-    requires { ⌜ Drawn (job shape (now list) own default options degrees ops «op_count») (length (now vertices)) (length (now work)) ⌝ }
+    requires { ⌜ Drawn (job shape (now list) own default options degrees ops «op_count») (lent (now vertices) (now triangles) (now work)) ⌝ }
     ensures { λ r. ⌜ Makes
         (refusalOf (job shape (now (list .entry)) own default options degrees ops «op_count»)
         (lent (now (vertices .entry)) (now (triangles .entry)) (now (work .entry))))
