@@ -2,13 +2,12 @@
 use borrow.Author.Needs.{needs}
 use native.Mathlib.Omega.{arith}
 use denote.Ref.{now}
-use mathlib.Core.Path.{_≡_, refl, subst}
-use mathlib.Core.List.{List}
-use Prim.Native.Nat.{ℕ, _≤_, _-_}
+use mathlib.Core.Path.{_≡_, refl}
+use Prim.Native.Nat.{_≤_, _-_}
 use lib.ListN.{length, take}
 use lib.Seq.{take-all}
 use Rattle.slice_text.specs.Line.{line, Puts}
-use Rattle.slice_text.specs.LineLaws.{no-text, next-byte}
+use Rattle.slice_text.specs.LineLaws.{no-text, next-byte, puts-same}
 use Rattle.slice_text.proofs.put.Statement.{statement}
 use Rattle.slice_text.proofs.put.Tie as tie
 
@@ -46,8 +45,7 @@ returns c =
     let l = c .before .loop in
     let b = now (c .before .before .before .before .args .b) in
     let e : length b ≤ l .i = omega arith in
-    subst (λ (t : List ℕ). Puts t (line (now (c .before .before .before .before .args .out)) (c .before .before .before .before .args .at)) (line (l .out) (l .to)))
-    (take-all (l .i) b e) (l .inv .2)
+    puts-same (take-all (l .i) b e) (l .inv .2)
 
 pub put-spec : {M : Type 1} → statement M
 put-spec =
