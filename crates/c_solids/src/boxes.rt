@@ -26,7 +26,8 @@ pub extern "C" fn sizturga_bench_sector(
     triangle_count: &mut usize,
 ) -> u32
     ensures { λ r. ⌜ Tells
-        (solidIn Cylindrical (Shape.Box (at x y z) (at «stop_x» «stop_y» «stop_z»)) unread segments rings (length (now (vertices .entry))) (length (now (triangles .entry))) (length (now (work .entry))))
+        (solidIn Cylindrical (Shape.Box (at x y z) (at «stop_x» «stop_y» «stop_z»)) unread segments rings
+        (length (now (vertices .entry))) (length (now (triangles .entry))) (length (now (work .entry))))
         r (now («vertex_count» .exit)) (now («triangle_count» .exit)) (now (vertices .exit)) (now (triangles .exit)) (now (work .exit)) ⌝ }
 {
     let list = [0.0; 1];
@@ -64,7 +65,8 @@ pub extern "C" fn sizturga_bench_multi_box(
     triangle_count: &mut usize,
 ) -> u32
     ensures { λ r. ⌜ Tells
-        (solidOf Shape.MultiBox (now (list .entry)) segments rings (length (now (vertices .entry))) (length (now (triangles .entry))) (length (now (work .entry))))
+        (solidOf Shape.MultiBox (now (list .entry)) segments rings
+        (length (now (vertices .entry))) (length (now (triangles .entry))) (length (now (work .entry))))
         r (now («vertex_count» .exit)) (now («triangle_count» .exit)) (now (vertices .exit)) (now (triangles .exit)) (now (work .exit)) ⌝ }
 {
     shapes::solid(

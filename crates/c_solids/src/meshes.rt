@@ -130,7 +130,8 @@ pub extern "C" fn sizturga_bench_transform(
     z: f64,
 ) -> u32
     ensures { λ r. ⌜ Leaves
-        (transformOf (turnThenMove (at «axis_x» «axis_y» «axis_z») angle (at x y z)) 2 false (state (counts (now («vertex_count» .entry)) (now («triangle_count» .entry))) (now (vertices .entry)) (now (triangles .entry))))
+        (transformOf (turnThenMove (at «axis_x» «axis_y» «axis_z») angle (at x y z)) 2 false
+        (state (counts (now («vertex_count» .entry)) (now («triangle_count» .entry))) (now (vertices .entry)) (now (triangles .entry))))
         r (now («vertex_count» .exit)) (now («triangle_count» .exit)) (now (vertices .exit)) (now (triangles .exit)) ⌝ }
 {
     let shift = TransformOp::Translate(Vec3 { x, y, z });

@@ -68,7 +68,8 @@ pub extern "C" fn sizturga_bench_box(
     triangle_count: &mut usize,
 ) -> u32
     ensures { λ r. ⌜ Tells
-        (solidOf (Shape.Box (at x y z) (at «stop_x» «stop_y» «stop_z»)) unread segments rings (lent (now (vertices .entry)) (now (triangles .entry)) (now (work .entry))))
+        (solidOf (Shape.Box (at x y z) (at «stop_x» «stop_y» «stop_z»)) unread segments rings
+        (lent (now (vertices .entry)) (now (triangles .entry)) (now (work .entry))))
         r (now («vertex_count» .exit)) (now («triangle_count» .exit)) (now (vertices .exit)) (now (triangles .exit)) (now (work .exit)) ⌝ }
 {
     let list = [0.0; 1];
@@ -147,7 +148,8 @@ pub extern "C" fn sizturga_bench_cylinder(
     triangle_count: &mut usize,
 ) -> u32
     ensures { λ r. ⌜ Tells
-        (solidOf (Shape.Cylinder (at x y z) (at «stop_x» «stop_y» «stop_z») radius) unread segments rings (lent (now (vertices .entry)) (now (triangles .entry)) (now (work .entry))))
+        (solidOf (Shape.Cylinder (at x y z) (at «stop_x» «stop_y» «stop_z») radius) unread segments rings
+        (lent (now (vertices .entry)) (now (triangles .entry)) (now (work .entry))))
         r (now («vertex_count» .exit)) (now («triangle_count» .exit)) (now (vertices .exit)) (now (triangles .exit)) (now (work .exit)) ⌝ }
 {
     let list = [0.0; 1];
@@ -188,7 +190,8 @@ pub extern "C" fn sizturga_bench_polygon(
     triangle_count: &mut usize,
 ) -> u32
     ensures { λ r. ⌜ Tells
-        (solidOf (Shape.Polygon «norm_dir» elevation) (now (list .entry)) segments rings (lent (now (vertices .entry)) (now (triangles .entry)) (now (work .entry))))
+        (solidOf (Shape.Polygon «norm_dir» elevation) (now (list .entry)) segments rings
+        (lent (now (vertices .entry)) (now (triangles .entry)) (now (work .entry))))
         r (now («vertex_count» .exit)) (now («triangle_count» .exit)) (now (vertices .exit)) (now (triangles .exit)) (now (work .exit)) ⌝ }
 {
     solid(
@@ -224,7 +227,8 @@ pub extern "C" fn sizturga_bench_extruded(
     triangle_count: &mut usize,
 ) -> u32
     ensures { λ r. ⌜ Tells
-        (solidOf (Shape.LinPoly «norm_dir» elevation depth) (now (list .entry)) segments rings (lent (now (vertices .entry)) (now (triangles .entry)) (now (work .entry))))
+        (solidOf (Shape.LinPoly «norm_dir» elevation depth) (now (list .entry)) segments rings
+        (lent (now (vertices .entry)) (now (triangles .entry)) (now (work .entry))))
         r (now («vertex_count» .exit)) (now («triangle_count» .exit)) (now (vertices .exit)) (now (triangles .exit)) (now (work .exit)) ⌝ }
 {
     solid(
@@ -263,7 +267,8 @@ pub extern "C" fn sizturga_bench_rotated(
     triangle_count: &mut usize,
 ) -> u32
     ensures { λ r. ⌜ Tells
-        (solidOf (Shape.RotPoly «norm_dir» elevation «rot_axis_dir» «start_angle» «stop_angle») (now (list .entry)) segments rings (lent (now (vertices .entry)) (now (triangles .entry)) (now (work .entry))))
+        (solidOf (Shape.RotPoly «norm_dir» elevation «rot_axis_dir» «start_angle» «stop_angle») (now (list .entry)) segments rings
+        (lent (now (vertices .entry)) (now (triangles .entry)) (now (work .entry))))
         r (now («vertex_count» .exit)) (now («triangle_count» .exit)) (now (vertices .exit)) (now (triangles .exit)) (now (work .exit)) ⌝ }
 {
     solid(

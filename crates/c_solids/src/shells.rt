@@ -23,7 +23,8 @@ pub extern "C" fn sizturga_bench_spherical_shell(
     triangle_count: &mut usize,
 ) -> u32
     ensures { λ r. ⌜ Tells
-        (solidOf (Shape.SphericalShell (at x y z) radius width) unread segments rings (length (now (vertices .entry))) (length (now (triangles .entry))) (length (now (work .entry))))
+        (solidOf (Shape.SphericalShell (at x y z) radius width) unread segments rings
+        (length (now (vertices .entry))) (length (now (triangles .entry))) (length (now (work .entry))))
         r (now («vertex_count» .exit)) (now («triangle_count» .exit)) (now (vertices .exit)) (now (triangles .exit)) (now (work .exit)) ⌝ }
 {
     let list = [0.0; 1];
@@ -64,7 +65,8 @@ pub extern "C" fn sizturga_bench_cylindrical_shell(
     triangle_count: &mut usize,
 ) -> u32
     ensures { λ r. ⌜ Tells
-        (solidOf (Shape.CylindricalShell (at x y z) (at «stop_x» «stop_y» «stop_z») radius width) unread segments rings (length (now (vertices .entry))) (length (now (triangles .entry))) (length (now (work .entry))))
+        (solidOf (Shape.CylindricalShell (at x y z) (at «stop_x» «stop_y» «stop_z») radius width) unread segments rings
+        (length (now (vertices .entry))) (length (now (triangles .entry))) (length (now (work .entry))))
         r (now («vertex_count» .exit)) (now («triangle_count» .exit)) (now (vertices .exit)) (now (triangles .exit)) (now (work .exit)) ⌝ }
 {
     let list = [0.0; 1];

@@ -1,47 +1,91 @@
 // The solids with their counts.
 use crate::drawn;
-use figures_lines::meshes;
-use figures_lines::titles;
+use crate::drawn::Drawn;
+use crate::written;
+use figures_lines::put_border;
+use figures_lines::put_box;
+use figures_lines::put_cylinder;
+use figures_lines::put_first;
+use figures_lines::put_measures;
+use figures_lines::put_shell;
+use figures_lines::put_sphere;
+use figures_text::put_counts;
 use math::Vec3;
+use mesh::TriMesh;
 use shape::Shape;
 
-pub fn at(x: f64, y: f64, z: f64) -> Vec3 {
+pub(crate) fn at(x: f64, y: f64, z: f64) -> Vec3 {
     Vec3 { x: x, y: y, z: z }
 }
 
+// Whether the mesh is closed.
+fn is_closed(m: TriMesh, t: &[u32]) -> bool {
+    let k = m.triangles;
+    if t.len() / 3 < k {
+        return false;
+    }
+    mesh_closed::closed(m.vertices, &t[..3 * k])
+}
+
+// The counts of a mesh and whether it is closed, after a title of n bytes that the line begins with.
+fn closed_or_open(line: &mut [u8], n: usize, d: Drawn, t: &[u32]) {
+    let m = d.mesh;
+    let mut to = put_counts(line, n, d.number, m);
+    to = put_border(line, to, is_closed(m, t));
+    written::write(line, to);
+}
+
+fn measures(m: TriMesh, v: &[f64], t: &[u32]) {
+    let mut line = [0u8; 160];
+    let area = mesh::area(m, v, t);
+    let volume = mesh::signed_volume(m, v, t);
+    let n = put_measures(&mut line, 0, area, volume);
+    written::write(&line, n);
+}
+
+// The first points and triangles.
+fn first(v: &[f64], t: &[u32]) {
+    let mut line = [0u8; 160];
+    let n = put_first(&mut line, 0, v, t);
+    written::write(&line, n);
+}
+
 // A box from the origin, and its first points and triangles where they are asked.
-fn box_to(stop: Vec3, first: bool) {
-    titles::box_to(stop);
+fn box_to(stop: Vec3, begin: bool) {
     let shape = Shape::Box {
         start: at(0.0, 0.0, 0.0),
         stop: stop,
     };
+    let mut line = [0u8; 160];
     let mut v = [0.0; 24];
     let mut t = [0u32; 36];
-    let m = drawn::draw(shape, 32, 16, &mut v, &mut t);
-    meshes::border(m.vertices, &t, m.triangles);
-    meshes::measures(m, &v, &t);
-    if first {
-        meshes::first(&v, &t);
+    let n = put_box(&mut line, 0, stop);
+    let d = drawn::draw(shape, 32, 16, &mut v, &mut t);
+    let m = d.mesh;
+    closed_or_open(&mut line, n, d, &t);
+    measures(m, &v, &t);
+    if begin {
+        first(&v, &t);
     }
 }
 
-pub fn boxes() {
+pub(crate) fn boxes() {
     box_to(at(1.0, 2.0, 3.0), true);
     box_to(at(1.0, 2.0, 0.0), false);
 }
 
 // A sphere, with its radius by name.
-pub fn sphere(center: Vec3, name: &[u8], radius: f64, segments: usize, rings: usize) {
-    titles::sphere(center, name, segments, rings);
+pub(crate) fn sphere(center: Vec3, name: &[u8], radius: f64, segments: usize, rings: usize) {
     let shape = Shape::Sphere {
         center: center,
         radius: radius,
     };
-    drawn::counts(shape, segments, rings);
+    let mut line = [0u8; 160];
+    let n = put_sphere(&mut line, 0, center, name, segments, rings);
+    written::counts(&mut line, n, drawn::counts(shape, segments, rings));
 }
 
-pub fn spheres() {
+pub(crate) fn spheres() {
     let origin = at(0.0, 0.0, 0.0);
     let least = ieee::from_bits(1);
     sphere(origin, b"0", 0.0, 32, 16);
@@ -51,26 +95,28 @@ pub fn spheres() {
 }
 
 fn cylinder(radius: f64, v: &mut [f64], t: &mut [u32]) {
-    titles::cylinder(radius);
     let shape = Shape::Cylinder {
         start: at(0.0, 0.0, 0.0),
         stop: at(0.0, 0.0, 1.0),
         radius: radius,
     };
-    let m = drawn::draw(shape, 3, 2, v, t);
-    meshes::border(m.vertices, t, m.triangles);
+    let mut line = [0u8; 160];
+    let n = put_cylinder(&mut line, 0, radius);
+    let d = drawn::draw(shape, 3, 2, v, t);
+    closed_or_open(&mut line, n, d, t);
 }
 
 fn shell(width: f64, v: &mut [f64], t: &mut [u32]) {
-    titles::shell(width);
     let shape = Shape::CylindricalShell {
         start: at(0.0, 0.0, 0.0),
         stop: at(0.0, 0.0, 1.0),
         radius: 1.0,
         shell_width: width,
     };
-    let m = drawn::draw(shape, 3, 2, v, t);
-    meshes::border(m.vertices, t, m.triangles);
+    let mut line = [0u8; 160];
+    let n = put_shell(&mut line, 0, width);
+    let d = drawn::draw(shape, 3, 2, v, t);
+    closed_or_open(&mut line, n, d, t);
 }
 
 // Writes whether the mesh in v and t is the cylinder of radius 2.5.
@@ -79,11 +125,11 @@ fn wide_cylinder(v: &[f64], t: &[u32]) {
     let mut triangles = [0u32; 36];
     cylinder(2.5, &mut vertices, &mut triangles);
     if figures_same::floats(v, &vertices) & figures_same::numbers(t, &triangles) {
-        figures_text::bytes(b"  the same mesh as the last one\n");
+        io::write_all(1, b"  the same mesh as the last one\n");
     }
 }
 
-pub fn cylinders() {
+pub(crate) fn cylinders() {
     let mut v = [0.0; 24];
     let mut t = [0u32; 36];
     cylinder(1.0, &mut v, &mut t);

@@ -1,8 +1,10 @@
 // The last input that is taken, and the first that is refused.
 use crate::drawings;
 use crate::drawn;
-use figures_lines::titles;
+use crate::written;
+use figures_lines::put_turned_box;
 use shape::Shape;
+use slice_text::put;
 use transform::TransformOp;
 
 fn first_box() -> Shape {
@@ -14,8 +16,10 @@ fn first_box() -> Shape {
 
 // The first box, turned about z by an angle with a name.
 fn about_z(name: &[u8], angle: f64) {
-    titles::turned_box(name);
-    drawn::moved(first_box(), TransformOp::RotateZ(angle));
+    let mut line = [0u8; 160];
+    let n = put_turned_box(&mut line, 0, name);
+    let d = drawn::moved(first_box(), TransformOp::RotateZ(angle));
+    written::counts(&mut line, n, d);
 }
 
 fn segments() {
@@ -32,23 +36,25 @@ fn angles() {
 }
 
 fn wide_box() {
-    figures_text::bytes(b"box (-1e308,0,0) to (1e308,1,1): ");
     let shape = Shape::Box {
         start: drawings::at(-1e308, 0.0, 0.0),
         stop: drawings::at(1e308, 1.0, 1.0),
     };
-    drawn::counts(shape, 32, 16);
+    let mut line = [0u8; 160];
+    let n = put(&mut line, 0, b"box (-1e308,0,0) to (1e308,1,1): ");
+    written::counts(&mut line, n, drawn::counts(shape, 32, 16));
 }
 
 fn seven_places() {
-    figures_text::bytes(b"box (0,0,0) to (1,2,3) in 7 vertex places: ");
+    let mut line = [0u8; 160];
     let mut v = [0.0; 21];
     let mut t = [0u32; 36];
-    drawn::draw(first_box(), 32, 16, &mut v, &mut t);
-    figures_text::bytes(b"\n");
+    let n = put(&mut line, 0, b"box (0,0,0) to (1,2,3) in 7 vertex places: ");
+    let d = drawn::draw(first_box(), 32, 16, &mut v, &mut t);
+    written::counts(&mut line, n, d);
 }
 
-pub fn all() {
+pub(crate) fn all() {
     segments();
     angles();
     wide_box();

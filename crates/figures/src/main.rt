@@ -1,12 +1,15 @@
 // Prints the figures of docs/SCOPE.md, "Figures", each computed by the library.
+mod arcs_and_roots;
 mod drawings;
 mod drawn;
 mod extremes;
+mod outlines;
+mod written;
 
 fn main() {
     drawings::boxes();
-    figures_lines::outlines::all();
-    figures_lines::arcs_and_roots::all();
+    outlines::all();
+    arcs_and_roots::all();
     drawings::spheres();
     drawings::cylinders();
     extremes::all();

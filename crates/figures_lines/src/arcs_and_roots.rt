@@ -1,29 +1,28 @@
 // Segments of arcs, and roots.
-use ieee::PI;
-use ieee::TAU;
+ghost use Rattle.figures_lines.specs.Figures.{arcOf, rootOf};
+ghost use Rattle.slice_text.specs.Line.{line, Puts};
+use figures_text::put_count;
+use figures_text::put_float;
+use slice_text::put;
 
-fn arc(name: &[u8], span: f64) {
-    figures_text::bytes(b"32 segments, span ");
-    figures_text::bytes(name);
-    figures_text::bytes(b": ");
-    figures_text::count(shape::arc_segments(32, span));
-    figures_text::bytes(b"\n");
+// The segments of an arc at 32 segments a turn, with its span by name.
+pub fn put_arc(out: &mut [u8], at: usize, name: &[u8], segments: usize) -> usize
+    ensures { λ r. ⌜ Puts (arcOf (now (name .entry)) segments) (line (now (out .entry)) at) (line (now (out .exit)) r) ⌝ }
+{
+    let mut to = put(out, at, b"32 segments, span ");
+    to = put(out, to, name);
+    to = put(out, to, b": ");
+    to = put_count(out, to, segments);
+    put(out, to, b"\n")
 }
 
-fn root(name: &[u8], x: f64) {
-    figures_text::bytes(b"root of ");
-    figures_text::bytes(name);
-    figures_text::bytes(b": ");
-    figures_text::float(root::sqrt(x));
-    figures_text::bytes(b"\n");
-}
-
-pub fn all() {
-    arc(b"0", 0.0);
-    arc(b"PI", PI);
-    arc(b"-PI", -PI);
-    arc(b"TAU", TAU);
-    root(b"4", 4.0);
-    root(b"-0", -0.0);
-    root(b"2^-1074", ieee::from_bits(1));
+// A root, with its number by name.
+pub fn put_root(out: &mut [u8], at: usize, name: &[u8], root: f64) -> usize
+    ensures { λ r. ⌜ Puts (rootOf (now (name .entry)) root) (line (now (out .entry)) at) (line (now (out .exit)) r) ⌝ }
+{
+    let mut to = put(out, at, b"root of ");
+    to = put(out, to, name);
+    to = put(out, to, b": ");
+    to = put_float(out, to, root);
+    put(out, to, b"\n")
 }

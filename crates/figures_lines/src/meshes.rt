@@ -1,36 +1,39 @@
 // What a drawn mesh is: open or closed, its measures, its first points and triangles.
-use mesh::TriMesh;
+ghost use Rattle.figures_lines.specs.Figures.{borderOf, measuresOf, firstOf};
+ghost use Rattle.slice_text.specs.Line.{line, Puts};
+use figures_text::put_measured;
+use figures_text::put_points;
+use figures_text::put_triangles;
+use mesh_measures::Measured;
+use slice_text::put;
 
-fn open_or_closed(closed: bool) {
+// Whether the mesh is closed, to the end of the line.
+pub fn put_border(out: &mut [u8], at: usize, closed: bool) -> usize
+    ensures { λ r. ⌜ Puts (borderOf closed) (line (now (out .entry)) at) (line (now (out .exit)) r) ⌝ }
+{
     if closed {
-        figures_text::bytes(b", closed\n");
-    } else {
-        figures_text::bytes(b", open\n");
+        return put(out, at, b", closed\n");
     }
+    put(out, at, b", open\n")
 }
 
-// "open" or "closed", of a mesh of n vertices with the first k triangles, to the end of the line.
-pub fn border(n: usize, t: &[u32], k: usize) {
-    if t.len() / 3 < k {
-        figures_text::bytes(b"\n");
-        return;
-    }
-    open_or_closed(mesh_closed::closed(n, &t[..3 * k]));
-}
-
-pub fn measures(m: TriMesh, v: &[f64], t: &[u32]) {
-    figures_text::bytes(b"  area ");
-    figures_text::measured(mesh::area(m, v, t));
-    figures_text::bytes(b", signed volume ");
-    figures_text::measured(mesh::signed_volume(m, v, t));
-    figures_text::bytes(b"\n");
+pub fn put_measures(out: &mut [u8], at: usize, area: Measured, signed_volume: Measured) -> usize
+    ensures { λ r. ⌜ Puts (measuresOf area «signed_volume») (line (now (out .entry)) at) (line (now (out .exit)) r) ⌝ }
+{
+    let mut to = put(out, at, b"  area ");
+    to = put_measured(out, to, area);
+    to = put(out, to, b", signed volume ");
+    to = put_measured(out, to, signed_volume);
+    put(out, to, b"\n")
 }
 
 // The first four vertices and the first two triangles.
-pub fn first(v: &[f64], t: &[u32]) {
-    figures_text::bytes(b"  first vertices");
-    figures_text::points(v, 4);
-    figures_text::bytes(b"\n  first triangles");
-    figures_text::triangles(t, 2);
-    figures_text::bytes(b"\n");
+pub fn put_first(out: &mut [u8], at: usize, v: &[f64], t: &[u32]) -> usize
+    ensures { λ r. ⌜ Puts (firstOf (now (v .entry)) (now (t .entry))) (line (now (out .entry)) at) (line (now (out .exit)) r) ⌝ }
+{
+    let mut to = put(out, at, b"  first vertices");
+    to = put_points(out, to, v, 4);
+    to = put(out, to, b"\n  first triangles");
+    to = put_triangles(out, to, t, 2);
+    put(out, to, b"\n")
 }

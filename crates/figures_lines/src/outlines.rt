@@ -1,45 +1,66 @@
 // Outlines: cleaning and clipping.
+ghost use Rattle.figures_lines.specs.Figures.{cornersOf, cleanedOf, removedOf, trianglesOf, clippedOf};
+ghost use Rattle.slice_text.specs.Line.{line, Puts};
+use figures_text::put_corners;
+use figures_text::put_count;
+use figures_text::put_triangles;
+use slice_text::put;
 
-fn clean(v: &[f64; 10]) {
-    let mut out = [0.0; 10];
-    let n = outline::clean_polygon(v, &mut out);
-    figures_text::bytes(b"corners");
-    figures_text::corners(v, 5);
-    figures_text::bytes(b" clean to ");
-    figures_text::count(n);
-    figures_text::bytes(b":");
-    figures_text::corners(&out, n);
-    figures_text::bytes(b"\n");
+// The corners of an outline, two floats each.
+fn put_outline(out: &mut [u8], at: usize, v: &[f64]) -> usize
+    ensures { λ r. ⌜ Puts (cornersOf (now (v .entry))) (line (now (out .entry)) at) (line (now (out .exit)) r) ⌝ }
+{
+    let to = put(out, at, b"corners");
+    put_corners(out, to, v, v.len() / 2)
 }
 
-// How many triangles a clipping gave and removed, with a colon where triangles follow.
-fn counts(triangles: usize, removed: usize) {
-    figures_text::bytes(b": ");
-    figures_text::count(triangles);
-    figures_text::bytes(b" triangles, ");
-    figures_text::count(removed);
-    figures_text::bytes(b" removed");
-    if 0 < triangles {
-        figures_text::bytes(b":");
+// An outline, and the n corners that cleaning leaves of it.
+pub fn put_cleaned(out: &mut [u8], at: usize, v: &[f64], cleaned: &[f64], n: usize) -> usize
+    ensures { λ r. ⌜ Puts (cleanedOf (now (v .entry)) (now (cleaned .entry)) n) (line (now (out .entry)) at) (line (now (out .exit)) r) ⌝ }
+{
+    let mut to = put_outline(out, at, v);
+    to = put(out, to, b" clean to ");
+    to = put_count(out, to, n);
+    to = put(out, to, b":");
+    to = put_corners(out, to, cleaned, n);
+    put(out, to, b"\n")
+}
+
+// How many triangles a clipping gave and how many corners it removed.
+fn put_removed(out: &mut [u8], at: usize, n: usize, removed: usize) -> usize
+    ensures { λ r. ⌜ Puts (removedOf n removed) (line (now (out .entry)) at) (line (now (out .exit)) r) ⌝ }
+{
+    let mut to = put(out, at, b": ");
+    to = put_count(out, to, n);
+    to = put(out, to, b" triangles, ");
+    to = put_count(out, to, removed);
+    put(out, to, b" removed")
+}
+
+// The triangles of a clipping after a colon, and nothing where there are none; then the end of the line.
+fn put_given(out: &mut [u8], at: usize, t: &[u32], n: usize) -> usize
+    ensures { λ r. ⌜ Puts (trianglesOf (now (t .entry)) n) (line (now (out .entry)) at) (line (now (out .exit)) r) ⌝ }
+{
+    if n == 0 {
+        return put(out, at, b"\n");
     }
+    let mut to = put(out, at, b":");
+    to = put_triangles(out, to, t, n);
+    put(out, to, b"\n")
 }
 
-fn clip(v: &[f64]) {
-    let mut t = [0u32; 6];
-    let c = outline_clip::clip_outline(v, &mut t);
-    let k = c.triangles;
-    figures_text::bytes(b"corners");
-    figures_text::corners(v, v.len() / 2);
-    counts(k, c.removed);
-    if 0 < k {
-        figures_text::triangles(&t, k);
-    }
-    figures_text::bytes(b"\n");
-}
-
-pub fn all() {
-    clean(&[0.0, 0.0, 0.0, 0.0, 1.0, 0.0, 1.0, 1.0, 0.0, 0.0]);
-    clip(&[0.0, 0.0, 1.0, 0.0, 1.0, 1.0, 0.0, 1.0]);
-    clip(&[0.0, 0.0, 1.0, 0.0, 2.0, 0.0, 3.0, 0.0]);
-    clip(&[0.0, 0.0, 1.0, 0.0]);
+// An outline, and the n triangles that clipping gives of it.
+pub fn put_clipped(
+    out: &mut [u8],
+    at: usize,
+    v: &[f64],
+    t: &[u32],
+    n: usize,
+    removed: usize,
+) -> usize
+    ensures { λ r. ⌜ Puts (clippedOf (now (v .entry)) (now (t .entry)) n removed) (line (now (out .entry)) at) (line (now (out .exit)) r) ⌝ }
+{
+    let mut to = put_outline(out, at, v);
+    to = put_removed(out, to, n, removed);
+    put_given(out, to, t, n)
 }

@@ -1,46 +1,73 @@
 // What is drawn, before the counts.
+ghost use Rattle.figures_lines.specs.Titles.{boxOf, finenessOf, sphereOf, cylinderOf, shellOf, turnedBoxOf};
+ghost use Rattle.slice_text.specs.Line.{line, Puts};
+use figures_text::put_count;
+use figures_text::put_float;
+use figures_text::put_point;
 use math::Vec3;
+use slice_text::put;
 
 // A box from the origin.
-pub fn box_to(stop: Vec3) {
-    figures_text::bytes(b"box (0,0,0) to ");
-    figures_text::point(stop);
-    figures_text::bytes(b": ");
-}
-
-// A sphere, with its radius by name.
-pub fn sphere(center: Vec3, name: &[u8], segments: usize, rings: usize) {
-    figures_text::bytes(b"sphere at ");
-    figures_text::point(center);
-    figures_text::bytes(b", r = ");
-    figures_text::bytes(name);
-    mesh_of(segments, rings);
+pub fn put_box(out: &mut [u8], at: usize, stop: Vec3) -> usize
+    ensures { λ r. ⌜ Puts (boxOf stop) (line (now (out .entry)) at) (line (now (out .exit)) r) ⌝ }
+{
+    let mut to = put(out, at, b"box (0,0,0) to ");
+    to = put_point(out, to, stop);
+    put(out, to, b": ")
 }
 
 // The segments and rings of a sphere.
-fn mesh_of(segments: usize, rings: usize) {
-    figures_text::bytes(b", ");
-    figures_text::count(segments);
-    figures_text::bytes(b" segments, ");
-    figures_text::count(rings);
-    figures_text::bytes(b" rings: ");
+fn put_fineness(out: &mut [u8], at: usize, segments: usize, rings: usize) -> usize
+    ensures { λ r. ⌜ Puts (finenessOf segments rings) (line (now (out .entry)) at) (line (now (out .exit)) r) ⌝ }
+{
+    let mut to = put(out, at, b", ");
+    to = put_count(out, to, segments);
+    to = put(out, to, b" segments, ");
+    to = put_count(out, to, rings);
+    put(out, to, b" rings: ")
 }
 
-pub fn cylinder(radius: f64) {
-    figures_text::bytes(b"cylinder (0,0,0) to (0,0,1), r = ");
-    figures_text::float(radius);
-    figures_text::bytes(b", 3 segments: ");
+// A sphere, with its radius by name.
+pub fn put_sphere(
+    out: &mut [u8],
+    at: usize,
+    center: Vec3,
+    name: &[u8],
+    segments: usize,
+    rings: usize,
+) -> usize
+    ensures { λ r. ⌜ Puts (sphereOf center (now (name .entry)) segments rings) (line (now (out .entry)) at) (line (now (out .exit)) r) ⌝ }
+{
+    let mut to = put(out, at, b"sphere at ");
+    to = put_point(out, to, center);
+    to = put(out, to, b", r = ");
+    to = put(out, to, name);
+    put_fineness(out, to, segments, rings)
 }
 
-pub fn shell(width: f64) {
-    figures_text::bytes(b"shell (0,0,0) to (0,0,1), r = 1, width ");
-    figures_text::float(width);
-    figures_text::bytes(b", 3 segments: ");
+// A cylinder of 3 segments.
+pub fn put_cylinder(out: &mut [u8], at: usize, radius: f64) -> usize
+    ensures { λ r. ⌜ Puts (cylinderOf radius) (line (now (out .entry)) at) (line (now (out .exit)) r) ⌝ }
+{
+    let mut to = put(out, at, b"cylinder (0,0,0) to (0,0,1), r = ");
+    to = put_float(out, to, radius);
+    put(out, to, b", 3 segments: ")
+}
+
+// A cylindrical shell of 3 segments.
+pub fn put_shell(out: &mut [u8], at: usize, width: f64) -> usize
+    ensures { λ r. ⌜ Puts (shellOf width) (line (now (out .entry)) at) (line (now (out .exit)) r) ⌝ }
+{
+    let mut to = put(out, at, b"shell (0,0,0) to (0,0,1), r = 1, width ");
+    to = put_float(out, to, width);
+    put(out, to, b", 3 segments: ")
 }
 
 // A turned box, with its angle by name.
-pub fn turned_box(name: &[u8]) {
-    figures_text::bytes(b"box (0,0,0) to (1,2,3) turned about z by ");
-    figures_text::bytes(name);
-    figures_text::bytes(b": ");
+pub fn put_turned_box(out: &mut [u8], at: usize, name: &[u8]) -> usize
+    ensures { λ r. ⌜ Puts (turnedBoxOf (now (name .entry))) (line (now (out .entry)) at) (line (now (out .exit)) r) ⌝ }
+{
+    let mut to = put(out, at, b"box (0,0,0) to (1,2,3) turned about z by ");
+    to = put(out, to, name);
+    put(out, to, b": ")
 }

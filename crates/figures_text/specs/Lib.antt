@@ -1,2 +1,4 @@
 -- What the contracts of `figures_text` cite.
-pub mod Whole
+pub mod Counts
+pub mod Floats
+pub mod Lists

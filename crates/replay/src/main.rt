@@ -1,7 +1,14 @@
 // Reads a case file from standard input, runs the library and writes the result file to standard output (tests/README.md).
 // The arrays have the largest sizes that a case may lend. A case that asks for more, or is cut off, ends the run.
+mod calls;
+mod input;
+mod loading;
+mod output;
+mod reading;
+mod steps;
 mod tessellated;
 mod turns;
+mod written;
 
 fn main() {
     let mut va = [0.0; 196608];

@@ -60,11 +60,11 @@ fn drawn(
 ) -> Answer {
     replay_slices::fill_slices(vertices, triangles, work);
     let e = made(c, ops, vertices, triangles, work, list);
-    replay_calls::drawn(e, vertices, triangles, work)
+    crate::written::drawn(e, vertices, triangles, work)
 }
 
 // 1: tessellates into A, in the parts of the arrays that the case has.
-pub fn tessellate(
+pub(crate) fn tessellate(
     s: Session,
     c: Case,
     ops: [TransformOp; 16],

@@ -21,7 +21,7 @@ fn call(
     if what == 1 {
         return tessellate(s, c, ops, va, ta, work, list);
     }
-    replay_calls::call(s, h, ops, va, ta, vb, tb, work, list)
+    crate::steps::call(s, h, ops, va, ta, vb, tb, work, list)
 }
 
 // The next case. The run ends where none is left.
@@ -35,14 +35,14 @@ fn step(
     list: &mut [f64; 4096],
 ) -> Session {
     let mut buf = [0u8; 65536];
-    let next = replay_io::next(&mut buf);
+    let next = crate::reading::next(&mut buf);
     let ops = replay_head::operations(next, &buf);
-    let c = replay_io::listed(next, list);
+    let c = crate::reading::listed(next, list);
     call(s, c, ops, va, ta, vb, tb, work, list)
 }
 
 // All cases. The count of turns falls, from a number that no run uses up.
-pub fn run(
+pub(crate) fn run(
     va: &mut [f64; 196608],
     ta: &mut [u32; 393216],
     vb: &mut [f64; 196608],

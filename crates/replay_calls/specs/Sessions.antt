@@ -3,7 +3,7 @@ use mathlib.Core.Bool.{Bool, true}
 use Prim.Native.Nat.{ℕ}
 use Rattle.replay_format.specs.declared.head.Head.{Head}
 use Rattle.mesh_check.specs.declared.TriMesh.{TriMesh}
-use Rattle.replay_calls.specs.declared.calls.Answer.{Answer}
+use Rattle.replay_calls.specs.declared.session.Answer.{Answer}
 use Rattle.replay_calls.specs.declared.session.Held.{Held}
 use Rattle.replay_calls.specs.declared.session.Session.{Session}
 
@@ -18,6 +18,10 @@ beginning = record { a = noMesh; b = noMesh; going = true }
 -- the same meshes, and whether the run goes on
 abbrev pub goingOn : Session → Bool → Session
 goingOn s w = record { a = s .a; b = s .b; going = w }
+
+-- A and B exchanged
+abbrev pub exchanged : Session → Session
+exchanged s = record { a = s .b; b = s .a; going = s .going }
 
 -- A is what a call answered, in slices of these lengths
 abbrev pub afterCall : Session → Answer → ℕ → ℕ → Session

@@ -1,14 +1,14 @@
-// The calls of a case but tessellation, on the meshes A and B in lent slices. Each writes its result.
-mod calls;
-mod exchange;
+// What the calls of a case do to the meshes A and B of a run, but for the library's own calls. Nothing here reads or writes.
+mod agreement;
+mod exchanging;
 mod session;
-mod steps;
-mod written;
 
-pub use calls::Answer;
+pub use agreement::agreed;
+pub use exchanging::exchange;
+pub use session::Answer;
 pub use session::Session;
 pub use session::after;
 pub use session::begun;
+pub use session::claimed_mesh;
+pub use session::going;
 pub use session::stopped;
-pub use steps::call;
-pub use written::drawn;

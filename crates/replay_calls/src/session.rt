@@ -1,9 +1,16 @@
 // The meshes A and B.
 ghost use mathlib.Core.Path.{_≡_};
 ghost use mathlib.Core.Bool.{false};
-ghost use Rattle.replay_calls.specs.Sessions.{noMesh, beginning, goingOn, afterCall};
-use crate::calls::Answer;
-use mesh::TriMesh;
+ghost use Rattle.replay_calls.specs.Sessions.{noMesh, beginning, goingOn, afterCall, claimed};
+use mesh_check::TriMesh;
+use replay_format::Head;
+use slice::wide;
+
+// The counts of A after a call, and whether its result was written.
+pub struct Answer {
+    pub mesh: TriMesh,
+    pub written: bool,
+}
 
 // A mesh as lent: its counts, and the lengths of its two slices.
 pub struct Held {
@@ -72,5 +79,15 @@ pub fn after(s: Session, r: Answer, floats: usize, numbers: usize) -> Session
         },
         b: b,
         going: r.written,
+    }
+}
+
+// The counts that a case claims.
+pub fn claimed_mesh(h: Head) -> TriMesh
+    ensures { λ r. ⌜ r ≡ claimed h ⌝ }
+{
+    TriMesh {
+        vertices: wide(h.vertex_count),
+        triangles: wide(h.triangle_count),
     }
 }

@@ -1,5 +1,4 @@
 -- What several proofs of `replay_format` cite, and those of `replay_head`.
 pub mod Arms
-mod Loops
 mod Operations
 mod Heads

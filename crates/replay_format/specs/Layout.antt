@@ -4,13 +4,12 @@ use mathlib.Core.List.{List}
 use Prim.Native.Nat.{ℕ, _+_}
 use lib.Dec.{eqb}
 use lib.ListN.{getD}
-use lib.Ieee.{Float, binary64, ofBits}
 use Rattle.math.specs.declared.Vec3.{Vec3}
 use Rattle.math_matrix.specs.declared.Row.{Row}
 use Rattle.transform.specs.declared.TransformOp.{TransformOp}
 use Rattle.transform.specs.declared.TransformOp.the-variants.{Translate, RotateOrigin, RotateX, RotateY, RotateZ, Scale, Scale3, Matrix}
 use Rattle.replay_format.specs.declared.head.Head.{Head}
-use Rattle.slice_bytes.specs.Bytes.{wordAt, longAt}
+use Rattle.slice_bytes.specs.Bytes.{wordAt, floatAt}
 
 -- the head of a case
 unfoldable pub headOf : List ℕ → Head
@@ -34,10 +33,6 @@ headOf b =
       «vertex_count» = wordAt b 40;
       «triangle_count» = wordAt b 44;
     }
-
--- the float at a place; every NaN pattern is the NaN
-abbrev pub floatAt : List ℕ → ℕ → Float
-floatAt b at = ofBits binary64 (longAt b at)
 
 -- three floats from a place on
 abbrev pub vecAt : List ℕ → ℕ → Vec3

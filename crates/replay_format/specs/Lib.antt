@@ -1,3 +1,2 @@
 -- The definitions that the contracts of `replay_format` cite.
 pub mod Layout
-pub mod Lists

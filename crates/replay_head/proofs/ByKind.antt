@@ -4,7 +4,8 @@ use mathlib.Core.List.{List}
 use Prim.Native.Nat.{ℕ}
 use borrow.Author.Tests.{ne-eqb}
 use Rattle.replay_format.specs.declared.head.Head.{Head}
-use Rattle.replay_format.specs.Layout.{floatAt, vecAt}
+use Rattle.replay_format.specs.Layout.{vecAt}
+use Rattle.slice_bytes.specs.Bytes.{floatAt}
 use Rattle.replay_format.proofs.Arms.{Not}
 use Rattle.shape.specs.declared.Shape.{Shape}
 use Rattle.shape.specs.declared.Shape.the-variants.{CylindricalShell}

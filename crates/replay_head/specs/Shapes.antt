@@ -4,7 +4,8 @@ use mathlib.Core.List.{List}
 use Prim.Native.Nat.{ℕ}
 use lib.Dec.{eqb}
 use Rattle.replay_format.specs.declared.head.Head.{Head}
-use Rattle.replay_format.specs.Layout.{floatAt, vecAt}
+use Rattle.replay_format.specs.Layout.{vecAt}
+use Rattle.slice_bytes.specs.Bytes.{floatAt}
 use Rattle.shape.specs.declared.Shape.{Shape}
 use Rattle.shape.specs.declared.Shape.the-variants.{Box, MultiBox, Sphere, SphericalShell, Cylinder, CylindricalShell, Polygon, LinPoly, RotPoly, Wire}
 use Rattle.shape.specs.declared.CoordSystem.{CoordSystem}

@@ -1,2 +1,3 @@
 -- What the contracts of `slice_bytes` cite.
 pub mod Bytes
+pub mod Lists

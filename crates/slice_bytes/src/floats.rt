@@ -2,8 +2,8 @@
 ghost use mathlib.Core.Path.{_≡_};
 ghost use Prim.Native.Nat.{_+_, _≤_};
 ghost use lib.ListN.{length};
-ghost use lib.Ieee.{binary64, ofBits, toBits};
-ghost use Rattle.slice_bytes.specs.Bytes.{longAt, withLong};
+ghost use lib.Ieee.{binary64, toBits};
+ghost use Rattle.slice_bytes.specs.Bytes.{floatAt, withLong};
 use crate::bytes;
 use ieee::bits_of;
 use ieee::from_bits;
@@ -11,7 +11,7 @@ use ieee::from_bits;
 // The float at place at.
 pub fn float_at(b: &[u8], at: usize) -> f64
     requires { ⌜ at + 8 ≤ length (now b) ⌝ }
-    ensures { λ r. ⌜ r ≡ ofBits binary64 (longAt (now (b .entry)) at) ⌝ }
+    ensures { λ r. ⌜ r ≡ floatAt (now (b .entry)) at ⌝ }
 {
     from_bits(bytes::long_at(b, at))
 }

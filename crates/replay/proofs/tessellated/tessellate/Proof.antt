@@ -4,12 +4,6 @@ use lib.ListN.{length-take}
 use borrow.Author.Needs.{needs}
 use Rattle.replay.proofs.tessellated.tessellate.Statement.{statement}
 use Rattle.replay.proofs.tessellated.tessellate.Tie as tie
-use Rattle.replay.proofs.tessellated.tessellate.Reads as reads
-use Rattle.replay.proofs.tessellated.tessellate.Lts as lts
-use Rattle.replay_slices.proofs.least.Reads as least-reads
-use Rattle.replay_calls.proofs.after.Reads as after-reads
-use Rattle.replay.proofs.tessellated.drawn.Reads as drawn-reads
-use Rattle.slice.proofs.wide.Reads as wide-reads
 
 wide-requires : tie.Need-wide-requires
 wide-requires c κs = search needs

@@ -2,10 +2,6 @@
 use native.Mathlib.Omega.{arith}
 use Rattle.replay.proofs.turns.run.Statement.{statement}
 use Rattle.replay.proofs.turns.run.Tie as tie
-use Rattle.replay.proofs.turns.run.Reads as reads
-use Rattle.replay.proofs.turns.run.Lts as lts
-use Rattle.replay_calls.proofs.begun.Reads as begun-reads
-use Rattle.replay.proofs.turns.step.Reads as step-reads
 
 abbrev Inv-loop : tie.InvT-loop
 Inv-loop va₀ ta₀ vb₀ tb₀ work₀ list₀ s₀ turns₀ va ta vb tb work list s turns = Unit {0}

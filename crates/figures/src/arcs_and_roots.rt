@@ -1,0 +1,28 @@
+// Segments of arcs, and roots.
+use crate::written;
+use figures_lines::put_arc;
+use figures_lines::put_root;
+use ieee::PI;
+use ieee::TAU;
+
+fn arc(name: &[u8], span: f64) {
+    let mut line = [0u8; 160];
+    let n = put_arc(&mut line, 0, name, shape::arc_segments(32, span));
+    written::write(&line, n);
+}
+
+fn root(name: &[u8], x: f64) {
+    let mut line = [0u8; 160];
+    let n = put_root(&mut line, 0, name, root::sqrt(x));
+    written::write(&line, n);
+}
+
+pub(crate) fn all() {
+    arc(b"0", 0.0);
+    arc(b"PI", PI);
+    arc(b"-PI", -PI);
+    arc(b"TAU", TAU);
+    root(b"4", 4.0);
+    root(b"-0", -0.0);
+    root(b"2^-1074", ieee::from_bits(1));
+}

@@ -1,0 +1,2 @@
+-- What the proofs of `figures_lines` cite.
+mod Cases

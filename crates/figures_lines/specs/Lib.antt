@@ -1,0 +1,3 @@
+-- What the contracts of `figures_lines` cite.
+pub mod Figures
+pub mod Titles

@@ -1,0 +1,2 @@
+-- What several proofs of `figures_text` cite.
+mod Cases

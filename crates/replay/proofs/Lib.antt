@@ -1,0 +1,2 @@
+-- Laws that the proofs of `replay` use.
+mod Leaves
