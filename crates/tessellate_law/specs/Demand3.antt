@@ -48,13 +48,13 @@ pub record Demand3 : Type 0 where
 -- ---- what the mesh of a job keeps
 
 -- a property of the empty mesh, of each welded soup, and kept by the three edits
-record Kept (P : Mesh → Type 0) : Type 0 where
+record KeptByDrawing (P : Mesh → Type 0) : Type 0 where
   empty : P noMesh
   appended : (m o : Mesh) → P m → P o → P (append m o)
   flipped : (m : Mesh) → P m → P (flip m)
   transformed : (a : Mat4) (m : Mesh) → P m → P (transform a m)
 
-module _ (P : Mesh → Type 0) (k : Kept P) where
+module _ (P : Mesh → Type 0) (k : KeptByDrawing P) where
   appended-parts : (m : Mesh) (ps : List Soup) → P m → EachPart (λ s. P (fromSoup s)) ps → P (appendParts m ps)
   unfolding appendParts
   appended-parts m [] h e = h
