@@ -39,7 +39,7 @@ same-length-3 c = search needs
 
 returns : tie.Need-returns
 returns c =
-    let d = c .before .before .before .before .before .before .before .before in
+    let d = c .before .before .before .before .before .before .before .before .before in
     let s = d .before .before .before .before .before .before .before .before .before .before .before in
     let a = s .args in
     let j = job (a .shape) (now (a .list)) (a .own) (a .default) (a .options) (a .degrees) (a .ops) (a .op-count) in
@@ -52,7 +52,7 @@ returns c =
 
 complete-requires : tie.Need-complete-requires
 complete-requires c κs =
-    let d = c .before .before .before .before .before .before .before .before .before .before in
+    let d = c .before .before .before .before .before .before .before .before .before .before .before in
     let s = d .before .before .before .before .before .before .before .before .before .before .before in
     let a = s .args in
     let j = job (a .shape) (now (a .list)) (a .own) (a .default) (a .options) (a .degrees) (a .ops) (a .op-count) in
@@ -74,7 +74,7 @@ same-length-6 c = search needs
 
 returns-2 : tie.Need-returns-2
 returns-2 c =
-    let d = c .before .before .before .before .before .before .before .before .before .before .before .before .before .before .before in
+    let d = c .before .before .before .before .before .before .before .before .before .before .before .before .before .before .before .before in
     let s = d .before .before .before .before .before .before .before .before .before .before .before in
     let a = s .args in
     let j = job (a .shape) (now (a .list)) (a .own) (a .default) (a .options) (a .degrees) (a .ops) (a .op-count) in
