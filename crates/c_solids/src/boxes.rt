@@ -1,5 +1,5 @@
 // Boxes in the cylindrical system, and several boxes.
-ghost use lib.ListN.{length};
+ghost use Rattle.mesh_made.specs.Made.{lent};
 ghost use Rattle.shape.specs.declared.Shape.the-variants as Shape;
 ghost use Rattle.shape.specs.declared.CoordSystem.the-variants.{Cylindrical};
 ghost use Rattle.c_solids.specs.Answers.{Tells, solidIn, solidOf, at, unread};
@@ -27,7 +27,7 @@ pub extern "C" fn sizturga_bench_sector(
 ) -> u32
     ensures { λ r. ⌜ Tells
         (solidIn Cylindrical (Shape.Box (at x y z) (at «stop_x» «stop_y» «stop_z»)) unread segments rings
-        (length (now (vertices .entry))) (length (now (triangles .entry))) (length (now (work .entry))))
+        (lent (now (vertices .entry)) (now (triangles .entry)) (now (work .entry))))
         r (now («vertex_count» .exit)) (now («triangle_count» .exit)) (now (vertices .exit)) (now (triangles .exit)) (now (work .exit)) ⌝ }
 {
     let list = [0.0; 1];
@@ -66,7 +66,7 @@ pub extern "C" fn sizturga_bench_multi_box(
 ) -> u32
     ensures { λ r. ⌜ Tells
         (solidOf Shape.MultiBox (now (list .entry)) segments rings
-        (length (now (vertices .entry))) (length (now (triangles .entry))) (length (now (work .entry))))
+        (lent (now (vertices .entry)) (now (triangles .entry)) (now (work .entry))))
         r (now («vertex_count» .exit)) (now («triangle_count» .exit)) (now (vertices .exit)) (now (triangles .exit)) (now (work .exit)) ⌝ }
 {
     shapes::solid(

@@ -1,5 +1,5 @@
 // Shells of a width.
-ghost use lib.ListN.{length};
+ghost use Rattle.mesh_made.specs.Made.{lent};
 ghost use Rattle.shape.specs.declared.Shape.the-variants as Shape;
 ghost use Rattle.c_solids.specs.Answers.{Tells, solidOf, at, unread};
 use crate::shapes;
@@ -24,7 +24,7 @@ pub extern "C" fn sizturga_bench_spherical_shell(
 ) -> u32
     ensures { λ r. ⌜ Tells
         (solidOf (Shape.SphericalShell (at x y z) radius width) unread segments rings
-        (length (now (vertices .entry))) (length (now (triangles .entry))) (length (now (work .entry))))
+        (lent (now (vertices .entry)) (now (triangles .entry)) (now (work .entry))))
         r (now («vertex_count» .exit)) (now («triangle_count» .exit)) (now (vertices .exit)) (now (triangles .exit)) (now (work .exit)) ⌝ }
 {
     let list = [0.0; 1];
@@ -66,7 +66,7 @@ pub extern "C" fn sizturga_bench_cylindrical_shell(
 ) -> u32
     ensures { λ r. ⌜ Tells
         (solidOf (Shape.CylindricalShell (at x y z) (at «stop_x» «stop_y» «stop_z») radius width) unread segments rings
-        (length (now (vertices .entry))) (length (now (triangles .entry))) (length (now (work .entry))))
+        (lent (now (vertices .entry)) (now (triangles .entry)) (now (work .entry))))
         r (now («vertex_count» .exit)) (now («triangle_count» .exit)) (now (vertices .exit)) (now (triangles .exit)) (now (work .exit)) ⌝ }
 {
     let list = [0.0; 1];

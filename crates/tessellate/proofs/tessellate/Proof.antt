@@ -35,9 +35,9 @@ returns c =
     let j = job (a .shape) (now (a .list)) (a .own) (a .default) (a .options) (a .degrees) (a .ops) (a .op-count) in
     let n = lent (now (a .vertices)) (now (a .triangles)) (now (a .work)) in
     let l = m .make .last .1 .1 .1 .1 .1 .1 .1 .1 in
-    let lv : length (l .0) ≡ length (now (a .vertices)) = search needs in
-    let lt : length (l .1 .0) ≡ length (now (a .triangles)) = search needs in
-    let lw : length (l .1 .1 .0) ≡ length (now (a .work)) = search needs in
+    let lv : length (l .0) ≡ length (now (a .vertices)) = e .before .before .before .before .before .before .before .before .before .vertices .given in
+    let lt : length (l .1 .0) ≡ length (now (a .triangles)) = e .before .before .before .before .before .before .before .triangles .given in
+    let lw : length (l .1 .1 .0) ≡ length (now (a .work)) = e .before .before .before .before .before .work .given in
     promised j n _ _ _ _ (solid-fits (a .shape) (now (a .list)) _ (m .before .before .before .before .before .before .before .before .good .0) (m .before .before .before .before .before .before .before .shared-slice-known .given))
     (gives-as
     (ap {B = Ending} (madeAs (refusalOf j n) (finalMesh j)) (lent-same (l .0) (now (a .vertices)) (l .1 .0) (now (a .triangles)) (l .1 .1 .0) (now (a .work)) lv lt lw))
