@@ -13,7 +13,8 @@ use lib.Ieee.Scale.{finite}
 use Rattle.ieee.specs.Unique.{round-self, zero-exp, fin-unique}
 use Rattle.ieee.specs.Zero.{beq-eq, beq-refl, is-zero, zero-add-is, zero-times, zero-mul-is, zero-over, zero-div-is}
 pub use Rattle.ieee.specs.Number.{isZero, Same, plusZero, canon}
-pub use Rattle.ieee.specs.Zero.{canon-zero, same→canon, canon→same, same-refl, same-sym, same-trans, canon-canon, round-zero, round-zero-at, add-swap, mul-swap, no-size}
+pub use Rattle.ieee.specs.Zero.{canon-zero, same→canon, canon→same, same-refl, same-sym, same-trans, canon-canon, round-zero, round-zero-at, add-swap}
+pub use Rattle.ieee.specs.Zero.{mul-swap, no-size}
 
 -- ---- each operation respects `Same`
 neg-zero : (x : Float) → T (isZero x) → T (isZero (neg x))

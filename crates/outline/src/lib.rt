@@ -108,11 +108,12 @@ fn gather(v: &[f64], out: &mut [f64]) -> usize
     m
 }
 
-// The Rust's clean_polygon, an inner function: its callers lend an out that is as long as v at least. The corners without equal neighbours and without last corners
-// that equal the first: out holds them, then +0.0; and how many there are.
+// The Rust's clean_polygon, an inner function: its callers lend an out that is as long as v at least. The corners without equal neighbours and without last
+// corners that equal the first: out holds them, then +0.0; and how many there are.
 pub fn clean_polygon(v: &[f64], out: &mut [f64]) -> usize
     requires { ⌜ length (now v) ≤ length (now out) ⌝ }
-    ensures { λ r. ⌜ (2 * r ≡ length (cleanPolygon (now (v .entry)))) × (now (out .exit) ≡ padded (cleanPolygon (now (v .entry))) (length (now (out .entry)))) ⌝ }
+    ensures { λ r. ⌜ (2 * r ≡ length (cleanPolygon (now (v .entry))))
+        × (now (out .exit) ≡ padded (cleanPolygon (now (v .entry))) (length (now (out .entry)))) ⌝ }
 {
     let m = gather(v, out);
     let n = stay(out, m);

@@ -1,5 +1,5 @@
--- Weights of directed edges (the crate mesh_balance_spec), summed over triangles in a list of numbers and around a list of corners; and a corner cut out of a cycle.
--- Assumes nothing.
+-- Weights of directed edges (the crate mesh_balance_spec), summed over triangles in a list of numbers and around a list of corners; and a corner cut out of a
+-- cycle. Assumes nothing.
 use Prim.Native.Nat.{ℕ, zero, suc, _+_, _-_, _*_, _%_, _<_, _≤_}
 use mathlib.Core.Path.{_≡_, refl, sym, ap, _∙_}
 use mathlib.Core.List.{List, [], _∷_, _++_}

@@ -1,5 +1,5 @@
--- From a state of the clipper to a later one: the triangles given and those that can still come are no more than before; and where they are as many, each directed
--- edge outnumbers its reverse by as much as before, over the triangles given and the cycle of the corners that remain. Assumes nothing.
+-- From a state of the clipper to a later one: the triangles given and those that can still come are no more than before; and where they are as many, each
+-- directed edge outnumbers its reverse by as much as before, over the triangles given and the cycle of the corners that remain. Assumes nothing.
 use Prim.Native.Nat.{ℕ, zero, suc, _+_, _-_, _*_, _<_, _≤_}
 use mathlib.Core.Path.{_≡_, refl}
 use mathlib.Core.Bool.{Bool, true, false, cond, _&&_}
@@ -17,7 +17,8 @@ use Rattle.outline_ears.specs.declared.Found.the-variants.{At, Nothing}
 use Rattle.outline_ears.proofs.Laws.{find-below}
 use Rattle.outline_triangulate.specs.Triangulate.{Clipping, without, fan, clipped, dropped, fanned, byFound, pass, passes, finished}
 use Rattle.outline_triangulate.proofs.Writing.{length-without}
-use Rattle.outline_caps_law.specs.Edges.{edges, chain, cycle, Thirds, none, more, cycle-cut, thirds-append, edges-append, fan-thirds, fan-length, fan-edges}
+use Rattle.outline_caps_law.specs.Edges.{edges, chain, cycle, Thirds, none, more, cycle-cut, thirds-append, edges-append, fan-thirds, fan-length}
+use Rattle.outline_caps_law.specs.Edges.{fan-edges}
 
 -- the weights of the edges of a state's triangles and of the cycle of the corners that remain
 unfoldable pub total : Weight ℕ → Clipping → ℕ

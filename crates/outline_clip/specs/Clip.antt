@@ -27,7 +27,12 @@ clipRefused r m = record { refusal = numberOf r; triangles = 0; removed = 0; sli
 
 -- accepted: the triangles, and zeros in the places after them, a broken last place too
 unfoldable pub clipAccepted : Clipping → ℕ → ClipOutcome
-clipAccepted s m = record { refusal = numberOf Accepted; triangles = length (s .triangles) / 3; removed = s .removed; slice = s .triangles ++ replicate (m - length (s .triangles)) 0 }
+clipAccepted s m = record {
+  refusal = numberOf Accepted;
+  triangles = length (s .triangles) / 3;
+  removed = s .removed;
+  slice = s .triangles ++ replicate (m - length (s .triangles)) 0;
+}
 
 -- 4: above 512 corners, or not whole corners. 1: a number is not finite. 7: more triangles than whole places
 unfoldable pub clipOutline : List Float → ℕ → ClipOutcome

@@ -14,7 +14,8 @@ use borrow.Author.Tests.{eq-eqb, ne-eqb}
 use Rattle.ieee.specs.Number.{absolute, maximum}
 use Rattle.outline.specs.declared.Point.{Point}
 use Rattle.outline.specs.Corners.{point, same}
-use Rattle.outline_ears.specs.Ears.{cross, largest, inTriangle, blocks, any, blocked, ip, inx, earAt, crossAt, isEar, isFlat, counting, find, firstEar, firstFlat}
+use Rattle.outline_ears.specs.Ears.{cross, largest, inTriangle, blocks, any, blocked, ip, inx, earAt, crossAt, isEar, isFlat, counting, find, firstEar}
+use Rattle.outline_ears.specs.Ears.{firstFlat}
 use Rattle.outline_ears.specs.Inside.{Inside}
 use Rattle.outline_ears.specs.declared.Ear.{Ear}
 use Rattle.outline_ears.specs.declared.Found.{Found}

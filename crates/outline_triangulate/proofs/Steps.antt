@@ -17,7 +17,8 @@ use Rattle.outline_ears.specs.declared.Ear.{Ear}
 use Rattle.outline_ears.specs.declared.Found.{Found}
 use Rattle.outline_ears.specs.declared.Found.the-variants.{At, Nothing}
 use Rattle.outline_ears.proofs.Laws.{idx-length, idx-at, find-below}
-use Rattle.outline_triangulate.specs.Triangulate.{Clipping, without, fan, clipped, dropped, fanned, byFound, pass, passes, finished, start, triangulated, triangulatePolygon}
+use Rattle.outline_triangulate.specs.Triangulate.{Clipping, without, fan, clipped, dropped, fanned, byFound, pass, passes, finished, start, triangulated}
+use Rattle.outline_triangulate.specs.Triangulate.{triangulatePolygon}
 use Rattle.outline_triangulate.specs.Slices.{idxOf, clippingOf, Room, Passing, CutAs, WroteTriangles}
 use Rattle.outline_triangulate.specs.declared.Remaining.{Remaining}
 use Rattle.outline_triangulate.specs.declared.Cut.{Cut}

@@ -7,7 +7,8 @@ use native.Mathlib.Nat.{add-zero, add-suc, suc-add, zero-add, not-suc-le-zero, l
 use native.Mathlib.Decide.{decLt}
 use native.Mathlib.Omega.{arith}
 use lib.ListN.{length, getD, take, drop, set, length-append, length-drop, length-set, drop-of-length-le, List·getD-append}
-use lib.Seq.{drop-cons, take-suc, take-suc-set, drop-set-lt, getD-drop, getD-take, length-take-le, take-take, drop-drop, take-add, take-at, drop-at, take-append-add, getD-append-add}
+use lib.Seq.{drop-cons, take-suc, take-suc-set, drop-set-lt, getD-drop, getD-take, length-take-le, take-take, drop-drop, take-add, take-at, drop-at}
+use lib.Seq.{take-append-add, getD-append-add}
 use lib.Ieee.{Float}
 use Rattle.slice_law.specs.Lists.{drop-further}
 use Rattle.outline_ears.specs.Ears.{counting}

@@ -23,7 +23,8 @@ pub record WroteTriangles (t t' : ℕ) (new b a : List ℕ) : Type 0 where
 abbrev pub clippingOf : List ℕ → Cut → List ℕ → Clipping
 clippingOf idx c out = record { idx = idx; triangles = take (3 * c .triangles) out; removed = c .removed }
 
--- where m corners remain and c has the counts, out has room for the m - 2 triangles that they give at most (none where m is 2 or less), and the counts are small
+-- where m corners remain and c has the counts, out has room for the m - 2 triangles that they give at most (none where m is 2 or less), and the counts are
+-- small
 pub record Room (m : ℕ) (c : Cut) (out : List ℕ) : Type 0 where
   pub room : 3 * c .triangles + 3 * (m - 2) ≤ length out
   pub few : c .removed + m ≤ 512

@@ -10,7 +10,8 @@ use crate::Passed;
 use crate::lists;
 use outline_ears::Found;
 
-// One pass over idx, the first m numbers of the array: the first unblocked ear is clipped; with none, the first flat corner goes; with none, the rest is fanned.
+// One pass over idx, the first m numbers of the array: the first unblocked ear is clipped; with none, the first flat corner goes; with none, the rest is
+// fanned.
 fn pass(v: &[f64], eps: f64, idx: &[u32; 512], m: usize, cut: Cut, out: &mut [u32]) -> Passed
     requires { ⌜ (3 < m) × Inside (now v) (now idx) m × Room m cut (now out) ⌝ }
     ensures { λ r. ⌜ Passing (now (v .entry)) eps (now (idx .entry)) m cut (now (out .entry)) r (now (out .exit)) ⌝ }
@@ -51,7 +52,8 @@ fn pass(v: &[f64], eps: f64, idx: &[u32; 512], m: usize, cut: Cut, out: &mut [u3
 // Three corners that remain are the last triangle where their cross is above eps; a NaN is not. Fewer give none.
 fn finish(v: &[f64], eps: f64, idx: &[u32; 512], m: usize, cut: Cut, out: &mut [u32]) -> Cut
     requires { ⌜ (m ≤ 3) × Inside (now v) (now idx) m × Room m cut (now out) ⌝ }
-    ensures { λ r. ⌜ (cut .triangles ≤ r .triangles) × CutAs (finished (now (v .entry)) eps (clippingOf (take m (now (idx .entry))) cut (now (out .entry)))) r (now (out .entry)) (now (out .exit)) ⌝ }
+    ensures { λ r. ⌜ (cut .triangles ≤ r .triangles) × CutAs (finished (now (v .entry)) eps (clippingOf (take m (now (idx .entry))) cut (now (out .entry))))
+        r (now (out .entry)) (now (out .exit)) ⌝ }
 {
     let given = cut.triangles;
     if m == 3 {
@@ -78,7 +80,8 @@ fn finish(v: &[f64], eps: f64, idx: &[u32; 512], m: usize, cut: Cut, out: &mut [
 // The triangles of an outline, in a slice with a place for each that 512 corners can have.
 fn triangulate(v: &[f64], out: &mut [u32]) -> Cut
     requires { ⌜ (length (now v) ≤ 1024) × (length (now out) ≡ 1536) ⌝ }
-    ensures { λ r. ⌜ CutAs (triangulatePolygon (now (v .entry))) r (now (out .entry)) (now (out .exit)) × (3 * r .triangles ≤ 1536) × (length (now (out .exit)) ≡ 1536) ⌝ }
+    ensures { λ r. ⌜ CutAs (triangulatePolygon (now (v .entry))) r (now (out .entry)) (now (out .exit))
+        × (3 * r .triangles ≤ 1536) × (length (now (out .exit)) ≡ 1536) ⌝ }
 {
     let n = v.len() / 2;
     let mut cut = Cut {
@@ -107,11 +110,12 @@ fn triangulate(v: &[f64], out: &mut [u32]) -> Cut
     finish(v, eps, &left.idx, m, cut, out)
 }
 
-// The Rust's triangulate_polygon, an inner function: clip_outline and the solids refuse more than 512 corners before they call it. The triangles are at the start of
-// out; what comes after them is left alone.
+// The Rust's triangulate_polygon, an inner function: clip_outline and the solids refuse more than 512 corners before they call it. The triangles are at the
+// start of out; what comes after them is left alone.
 pub fn triangulate_polygon(v: &[f64], out: &mut [u32; 1536]) -> Cut
     requires { ⌜ length (now v) ≤ 1024 ⌝ }
-    ensures { λ r. ⌜ CutAs (triangulatePolygon (now (v .entry))) r (now (out .entry)) (now (out .exit)) × (3 * r .triangles ≤ 1536) × (length (now (out .exit)) ≡ 1536) ⌝ }
+    ensures { λ r. ⌜ CutAs (triangulatePolygon (now (v .entry))) r (now (out .entry)) (now (out .exit))
+        × (3 * r .triangles ≤ 1536) × (length (now (out .exit)) ≡ 1536) ⌝ }
 {
     triangulate(v, out)
 }

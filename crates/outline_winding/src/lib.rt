@@ -64,8 +64,8 @@ fn copy_swapped(v: &[f64], out: &mut [f64]) -> usize
     n
 }
 
-// The corners that the Rust's ccw_polygon returns, of 512 corners at most: cleaned, and reversed where their signed area is below 0. out holds them, then +0.0; and
-// how many there are.
+// The corners that the Rust's ccw_polygon returns, of 512 corners at most: cleaned, and reversed where their signed area is below 0. out holds them, then +0.0;
+// and how many there are.
 pub fn ccw_polygon(v: &[f64], out: &mut [f64; 1024]) -> usize
     requires { ⌜ length (now v) ≤ 1024 ⌝ }
     ensures { λ r. ⌜ (2 * r ≡ length (ccwPolygon (now (v .entry)))) × (now (out .exit) ≡ padded (ccwPolygon (now (v .entry))) 1024) ⌝ }
@@ -80,8 +80,8 @@ pub fn ccw_polygon(v: &[f64], out: &mut [f64; 1024]) -> usize
     n
 }
 
-// The corners that a solid is made from: those of ccw_polygon, of the corners swapped where swap says so (a rotated outline). out holds them, then +0.0; and how many
-// there are.
+// The corners that a solid is made from: those of ccw_polygon, of the corners swapped where swap says so (a rotated outline). out holds them, then +0.0; and
+// how many there are.
 pub fn prepare(list: &[f64], swap: bool, out: &mut [f64; 1024]) -> usize
     requires { ⌜ length (now list) ≤ 1024 ⌝ }
     ensures { λ r. ⌜ (2 * r ≡ length (prepared swap (now (list .entry)))) × (now (out .exit) ≡ padded (prepared swap (now (list .entry))) 1024) ⌝ }

@@ -29,7 +29,8 @@ use Rattle.surface_spec.specs.declared.Surface.the-variants.{Extruded, Rotated}
 use Rattle.shape.specs.Arc.{arcSegments, isFull}
 use Rattle.surface_spec.specs.declared.Surface.{Surface}
 use Rattle.solid_spec.specs.Grid.{Soup, grid}
-use Rattle.solid_spec.specs.Outline.{planePoint, caps, cornerAt, extrudedSides, extrudedFrom, angle, spun, turnedAt, turnedSides, turnedFrom, rotatedFrom, height}
+use Rattle.solid_spec.specs.Outline.{planePoint, caps, cornerAt, extrudedSides, extrudedFrom, angle, spun, turnedAt, turnedSides, turnedFrom, rotatedFrom}
+use Rattle.solid_spec.specs.Outline.{height}
 use Rattle.solid_spec.specs.Polygons.{capTriangles, extrudedPolygon, radialAxis, swaps, rotpoly}
 use Rattle.surface_spec.specs.Surface.{surfaceAt}
 use Rattle.surface_spec.proofs.SurfaceGrids.{extruded-surface, rotated-surface}

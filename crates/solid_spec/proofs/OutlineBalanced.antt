@@ -1,4 +1,5 @@
--- An extruded outline with two different ends, and a rotated outline, are balanced where their caps have the outline as their boundary; a full turn needs no caps.
+-- An extruded outline with two different ends, and a rotated outline, are balanced where their caps have the outline as their boundary; a full turn needs no
+-- caps.
 use mathlib.Core.Path.{_≡_, refl, sym, ap, _∙_}
 use mathlib.Core.List.{List, [], _++_, append-nil}
 use mathlib.Core.Bool.{Bool, true, false, cond}

@@ -1,4 +1,5 @@
--- Extruded outlines of two different ends, and rotated outlines, with n - 2 cap triangles for n corners, are balanced; a rotated one of a full turn in any case.
+-- Extruded outlines of two different ends, and rotated outlines, with n - 2 cap triangles for n corners, are balanced; a rotated one of a full turn in any
+-- case.
 use mathlib.Core.Path.{_≡_, refl, sym, ap, _∙_}
 use mathlib.Core.List.{List, [], map}
 use mathlib.Core.Bool.{Bool, true, false, cond, not, _&&_}
@@ -20,7 +21,8 @@ use Rattle.outline_caps_law.specs.Caps as Cap
 use Rattle.mesh_spec.specs.Mesh.{plusZeroV}
 use Rattle.shape.specs.Arc.{isFull}
 use Rattle.solid_spec.specs.Outline.{extrudedFrom, rotatedFrom}
-use Rattle.solid_spec.specs.Polygons.{capTriangles, extrudedPolygon, lowEnd, highEnd, linPolySoup, radialAxis, rotpoly, rotPolySoup, capCount, radialCorners}
+use Rattle.solid_spec.specs.Polygons.{capTriangles, extrudedPolygon, lowEnd, highEnd, linPolySoup, radialAxis, rotpoly, rotPolySoup, capCount}
+use Rattle.solid_spec.specs.Polygons.{radialCorners}
 use Rattle.solid_spec.proofs.Closes.{Closes, nothing-closes}
 use Rattle.solid_spec.proofs.OutlineBalanced.{extrudedFrom-closes, rotatedFrom-closes}
 

@@ -1,4 +1,5 @@
--- The sides of an outline, over any points: a ring of cells round its corners, at n + 1 levels. With the caps, or where the last level is the first, it is balanced.
+-- The sides of an outline, over any points: a ring of cells round its corners, at n + 1 levels. With the caps, or where the last level is the first, it is
+-- balanced.
 use mathlib.Core.Path.{_≡_, refl, sym, ap, _∙_, fun-ext}
 use mathlib.Core.List.{List, [], _∷_, _++_}
 use mathlib.Core.Bool.{true, false}

@@ -14,8 +14,10 @@ use Rattle.math.specs.declared.Vec3.{Vec3}
 use Rattle.math.specs.Vec.{axis, withAxis, vSub, vMin, vMax, dot, cross, normSq, norm}
 use Rattle.outline.specs.Corners.{point, same}
 use Rattle.outline.specs.Clean.{endsIn, pushed, gathered, stay, cleanPolygon}
-use Rattle.outline_ears.specs.Ears.{cross as turn, largest, scale, tolerance, inTriangle, blocks, any, blocked, ip, inx, earAt, crossAt, isEar, isFlat, counting, find, firstEar, firstFlat}
-use Rattle.outline_triangulate.specs.Triangulate.{Clipping, without, clipped, dropped, fans, fan, fanned, byFound, pass, passes, finished, start, triangulated, triangulatePolygon}
+use Rattle.outline_ears.specs.Ears.{cross as turn, largest, scale, tolerance, inTriangle, blocks, any, blocked, ip, inx, earAt, crossAt, isEar, isFlat}
+use Rattle.outline_ears.specs.Ears.{counting, find, firstEar, firstFlat}
+use Rattle.outline_triangulate.specs.Triangulate.{Clipping, without, clipped, dropped, fans, fan, fanned, byFound, pass, passes, finished, start, triangulated}
+use Rattle.outline_triangulate.specs.Triangulate.{triangulatePolygon}
 use Rattle.mesh_spec.specs.Mesh.{Mesh, noMesh, plusZeroV, samePoint, firstSight, withPoint, weldTriangle, weldSoup, fromSoup, append, appendParts, fromParts}
 use Rattle.mesh_spec.specs.Measures.{triangleSoup, sumOf, volumeTerm, areaTerm, signedVolume, area}
 use Rattle.mesh_balance_spec.specs.Count.{EdgesBalance}
@@ -124,7 +126,8 @@ pub record Figures : Type 0 where
   pub root-minus-zero : sqrt binary64 (neg (float 0)) ≡ neg (float 0)
   pub root-least : sqrt binary64 (fin false 1 (negsuc 1073)) ≡ fin false 1 (negsuc 536)
   -- sphere r = 0: nothing, for any centre, segments, rings and slices with which it is accepted
-  pub no-sphere : (center : Vec3) (o : TessellationOptions) (n : Lent) → Accepts (drawn (Sphere center (float 0)) o) n → given (drawn (Sphere center (float 0)) o) n ≡ noMesh
+  pub no-sphere : (center : Vec3) (o : TessellationOptions) (n : Lent) → Accepts (drawn (Sphere center (float 0)) o) n
+      → given (drawn (Sphere center (float 0)) o) n ≡ noMesh
 
 -- ---- what it takes to compute them
 

@@ -16,7 +16,8 @@ use Rattle.transform.specs.declared.TransformOp.the-variants.{Scale}
 use Rattle.transform.specs.Angle.{within1000}
 use Rattle.transform.specs.Ops.{opMatrix, foldFrom, folded}
 use Rattle.transform.specs.Checks.{opFinite, opsFinite, opAngleWithin, opsAnglesWithin}
-use Rattle.mesh_spec.specs.Mesh.{plusZeroV, samePoint, firstSight, withPoint, weldTriangle, weldSoup, fromSoup, everyFinite, append, flip, appendParts, fromParts}
+use Rattle.mesh_spec.specs.Mesh.{plusZeroV, samePoint, firstSight, withPoint, weldTriangle, weldSoup, fromSoup, everyFinite, append, flip, appendParts}
+use Rattle.mesh_spec.specs.Mesh.{fromParts}
 use Rattle.mesh_spec.specs.Edits.{moved, transform}
 use Rattle.solid_spec.specs.Grid.{grid}
 use Rattle.solid_spec.specs.ParamBox.{coord, facePoint, face, faces, paramBox}

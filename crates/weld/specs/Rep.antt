@@ -84,7 +84,17 @@ pub record Runs (soup : List (Tri Vec3)) (h k : Held) : Type 0 where
 
 -- the state in which nothing is welded yet
 abbrev pub beginning : ℕ → Welder
-beginning places = record { base = 0; count = 0; places = places; faces = 0; near = ofBits binary64 0; finite = true; room = true; ordered = false; rising = false }
+beginning places = record {
+  base = 0;
+  count = 0;
+  places = places;
+  faces = 0;
+  near = ofBits binary64 0;
+  finite = true;
+  room = true;
+  ordered = false;
+  rising = false;
+}
 
 -- nothing is welded yet, and no vertex is in a chain
 pub record Begun (r : Welder) (vs : List Float) (ws : List ℕ) : Type 0 where

@@ -17,11 +17,31 @@ use Rattle.weld.specs.Rep.{rowOf, InRow, indexed}
 
 -- the state after a point that is not finite
 abbrev pub unfinite : Welder → Welder
-unfinite w = record { base = w .base; count = w .count; places = w .places; faces = w .faces; near = w .near; finite = false; room = w .room; ordered = w .ordered; rising = w .rising }
+unfinite w = record {
+  base = w .base;
+  count = w .count;
+  places = w .places;
+  faces = w .faces;
+  near = w .near;
+  finite = false;
+  room = w .room;
+  ordered = w .ordered;
+  rising = w .rising;
+}
 
 -- the state after the mesh did not fit
 abbrev pub shut : Welder → Welder
-shut w = record { base = w .base; count = w .count; places = w .places; faces = w .faces; near = w .near; finite = w .finite; room = false; ordered = w .ordered; rising = w .rising }
+shut w = record {
+  base = w .base;
+  count = w .count;
+  places = w .places;
+  faces = w .faces;
+  near = w .near;
+  finite = w .finite;
+  room = false;
+  ordered = w .ordered;
+  rising = w .rising;
+}
 
 -- the row that was foreseen, and a new point in a row
 abbrev pub rowSeen : Foreseen → Row
@@ -53,12 +73,42 @@ pub record Foresees (w : Welder) (vs : List Float) (p : Vec3) (f : Foreseen) : T
 
 -- the state after a new vertex of which f was foreseen
 abbrev pub more : Welder → Foreseen → Welder
-more w f = record { base = w .base; count = w .count + 1; places = w .places; faces = w .faces; near = f .near; finite = w .finite; room = w .room; ordered = f .fresh; rising = f .rising }
+more w f = record {
+  base = w .base;
+  count = w .count + 1;
+  places = w .places;
+  faces = w .faces;
+  near = f .near;
+  finite = w .finite;
+  room = w .room;
+  ordered = f .fresh;
+  rising = f .rising;
+}
 
 -- the state after a new triangle
 abbrev pub moreFaces : Welder → Welder
-moreFaces w = record { base = w .base; count = w .count; places = w .places; faces = w .faces + 1; near = w .near; finite = w .finite; room = w .room; ordered = w .ordered; rising = w .rising }
+moreFaces w = record {
+  base = w .base;
+  count = w .count;
+  places = w .places;
+  faces = w .faces + 1;
+  near = w .near;
+  finite = w .finite;
+  room = w .room;
+  ordered = w .ordered;
+  rising = w .rising;
+}
 
 -- the state after all vertices of this part went into the chains
 abbrev pub settled : Welder → Welder
-settled w = record { base = w .base; count = w .count; places = w .places; faces = w .faces; near = w .near; finite = w .finite; room = w .room; ordered = false; rising = w .rising }
+settled w = record {
+  base = w .base;
+  count = w .count;
+  places = w .places;
+  faces = w .faces;
+  near = w .near;
+  finite = w .finite;
+  room = w .room;
+  ordered = false;
+  rising = w .rising;
+}

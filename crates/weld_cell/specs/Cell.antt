@@ -17,4 +17,5 @@ SideRuns b c na nd h q vs ts ws = (a d : Vec3) → Given (h .st) (h .vertices) a
 
 -- the same for the triangles a, d, c and a, c, b
 abbrev pub TurnedSideRuns : Vec3 → Vec3 → ℕ → ℕ → Held → Quad → List Float → List ℕ → List ℕ → Type 0
-TurnedSideRuns b c na nd h q vs ts ws = (a d : Vec3) → Given (h .st) (h .vertices) a na → Given (h .st) (h .vertices) d nd → CornersRun a d c b h (exchanged q) vs ts ws
+TurnedSideRuns b c na nd h q vs ts ws =
+    (a d : Vec3) → Given (h .st) (h .vertices) a na → Given (h .st) (h .vertices) d nd → CornersRun a d c b h (exchanged q) vs ts ws

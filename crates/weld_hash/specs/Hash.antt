@@ -82,5 +82,6 @@ Sought vs base count p Missing = (m : ℕ) → base ≤ m → m < count → same
 -- p got the number m: it was found, and nothing changed; or it is new, and vertex `count`; or there was no place for it
 pub record Placing (places base count : ℕ) (p : Vec3) (vs : List Float) (ws : List ℕ) (m : ℕ) (vs′ : List Float) (ws′ : List ℕ) : Type 0 where
   pub found : m < count → FirstAt vs base count p m × (vs′ ≡ vs) × (ws′ ≡ ws)
-  pub new : m ≡ count → Sought vs base count p Missing × (count < places) × (bucketOf places p < places) × (vs′ ≡ putVertex vs count p) × (ws′ ≡ linkedIn ws places count (bucketOf places p))
+  pub new : m ≡ count → Sought vs base count p Missing × (count < places) × (bucketOf places p < places)
+      × (vs′ ≡ putVertex vs count p) × (ws′ ≡ linkedIn ws places count (bucketOf places p))
   pub full : count < m → Sought vs base count p Missing × (places ≤ count) × (vs′ ≡ vs) × (ws′ ≡ ws)

@@ -63,4 +63,5 @@ quadWith t na nb nd = record { st = t .st; a = na; b = nb; c = t .number; d = nd
 -- a quad of which all points but c were known was welded
 abbrev pub LastRuns : Vec3 → ℕ → ℕ → ℕ → Held → Welded → List Float → List ℕ → List ℕ → Type 0
 LastRuns c na nb nd h t vs ts ws =
-    (a b d : Vec3) → Known (h .st) (h .vertices) a na → Known (h .st) (h .vertices) b nb → Known (h .st) (h .vertices) d nd → Numbered (quad a b c d) a b c d h (quadWith t na nb nd) vs ts ws
+    (a b d : Vec3) → Known (h .st) (h .vertices) a na → Known (h .st) (h .vertices) b nb → Known (h .st) (h .vertices) d nd
+    → Numbered (quad a b c d) a b c d h (quadWith t na nb nd) vs ts ws

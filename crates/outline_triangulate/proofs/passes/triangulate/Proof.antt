@@ -9,7 +9,8 @@ use Rattle.outline_ears.proofs.Laws.{idx-length}
 use Rattle.outline_triangulate.specs.Triangulate.{passes, start}
 use Rattle.outline_triangulate.specs.Slices.{clippingOf, idxOf}
 use Rattle.outline_triangulate.proofs.Writing.{counting-inside}
-use Rattle.outline_triangulate.proofs.Steps.{Going, goes-on, goes-without, goes-fanned, square-enough, reaches-end, triangulate-few, triangulate-is, start-is, cut-from, cut-short, passing-at}
+use Rattle.outline_triangulate.proofs.Steps.{Going, goes-on, goes-without, goes-fanned, square-enough, reaches-end, triangulate-few, triangulate-is}
+use Rattle.outline_triangulate.proofs.Steps.{start-is, cut-from, cut-short, passing-at}
 use borrow.Author.Needs.{needs}
 use Rattle.outline_triangulate.proofs.passes.triangulate.Statement.{statement}
 use Rattle.outline_triangulate.proofs.passes.triangulate.Tie as tie
