@@ -2,7 +2,7 @@
 use crate::rng::Rng;
 use std::f64::consts::FRAC_PI_2;
 
-/// Document 01's H, near 2 / PI.
+/// H of docs/SCOPE.md, T1, near 2 / PI.
 pub const H: f64 = f64::from_bits(0x3FE4_5F30_6DC9_C883);
 
 pub struct Group {

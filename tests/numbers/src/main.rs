@@ -1,4 +1,4 @@
-//! Compares the proved root with the hardware's, and the proved sine and cosine with document 01's text in Rust.
+//! Compares the proved root with the hardware's, and the proved sine and cosine with the text of docs/SCOPE.md in Rust.
 //! `numbers [INPUTS [SEED]]`: prints counts, mismatches and times; the exit status is 1 where something differs.
 mod inputs;
 #[path = "../../oracle/src/rng.rs"]

@@ -53,7 +53,7 @@ const MODULES: [&str; 13] = [
 /// A file, a text that stands in it once, and what replaces it.
 type Patch = (&'static str, &'static str, &'static str);
 
-/// First patch: document 01's sine and cosine.
+/// First patch: the sine and cosine of docs/SCOPE.md.
 const SINE: [Patch; 6] = [
     ("math.rs", "angle.sin_cos()", "crate::sine::sin_cos(angle)"),
     ("coords.rs", "p[1].sin_cos()", "crate::sine::sin_cos(p[1])"),
@@ -87,7 +87,7 @@ const SUMS: [Patch; 4] = [
     ),
 ];
 
-/// Not a patch of results: the clipper reports each corner that it removes, for document 01's added count.
+/// Not a patch of results: the clipper reports each corner that it removes, for the added count of docs/SCOPE.md, S21.
 const COUNT: [Patch; 2] = [
     (
         "tessellate.rs",

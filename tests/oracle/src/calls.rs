@@ -1,4 +1,4 @@
-//! The calls: refusals and fill from document 01's text, all else from the reference.
+//! The calls: refusals and fill from the text of docs/SCOPE.md, all else from the Rust.
 use crate::case::*;
 use crate::reference;
 use crate::refusals::{self, Lent, PLACES, POINT};

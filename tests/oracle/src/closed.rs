@@ -1,4 +1,4 @@
-//! Demand 3 of document 01, checked on results: which cases make a closed solid, and whether a mesh is closed.
+//! Demand 3 (docs/SCOPE.md, "Words of demand 3"), checked on results: which cases make a closed solid, and whether a mesh is closed.
 use crate::case::*;
 use crate::refusals::Lent;
 use csx::tessellate::shown::ccw_polygon;

@@ -1,4 +1,4 @@
-//! The refusals, from document 01's text. Each function returns a number of its list, or 0.
+//! The refusals, from the text of docs/SCOPE.md, "Refusals". Each function returns one of its numbers, or 0.
 use crate::case::*;
 
 pub const NOT_FINITE: u32 = 1;

@@ -1,4 +1,4 @@
-//! The figures of document 01, "Both edges, with figures", checked against the reference. (P) marks those that are proved.
+//! The figures of docs/SCOPE.md, "Figures", checked on the Rust. (P) marks those that are proved.
 use csx::added::triangulate_counted;
 use csx::tessellate::shown::{arc_segments, clean_polygon};
 use csx::tessellate::{TessellationOptions, TriMesh};

@@ -1,4 +1,4 @@
-//! Document 01's added count of corners removed singly.
+//! The added count of corners removed singly (docs/SCOPE.md, S21).
 use std::cell::Cell;
 
 thread_local! {

@@ -1,4 +1,4 @@
-//! Sine and cosine as document 01 defines them. Each operation rounds once.
+//! Sine and cosine as docs/SCOPE.md, "Sine and cosine", defines them. Each operation rounds once.
 
 const H: f64 = f64::from_bits(0x3FE45F306DC9C883);
 const A: f64 = f64::from_bits(0x3FF921FB54400000);

@@ -1,4 +1,4 @@
-//! `closed CASES RESULTS`: checks a result file against demand 3 and document 01's fill, trusting neither program.
+//! `closed CASES RESULTS`: checks a result file against demand 3 and the fill of docs/SCOPE.md, trusting neither program.
 use oracle::case::*;
 use oracle::closed::{closed, is_closed_solid, sound};
 use oracle::refusals::{Lent, of_mesh};
