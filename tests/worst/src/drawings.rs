@@ -94,7 +94,7 @@ impl Drawing {
     }
 }
 
-/// Drawings that took 250 to 2,500 times as long as others of their size where the bucket was taken from few bits.
+/// Points that differ in their last bits only: with a bucket made of few bits they take hundreds of times as long as others.
 pub fn named() -> Vec<Drawing> {
     let sphere = |center: [f64; 3], radius: f64, segments, rings| Drawing {
         kind: "sphere",
