@@ -1,4 +1,4 @@
--- Demand 3 of the mission, whole and as one theorem, on the definitions that the contracts of `tessellate`, `append`, `flip` and `transform` cite.
+-- Demand 3 (docs/SCOPE.md, "Words of demand 3"), whole and as one theorem, on the definitions that the contracts of `tessellate`, `append`, `flip` and `transform` cite.
 -- Assumes nothing.
 -- The words are in specs/Words.antt: `Solid` has the conditions, a line for each shape.
 use mathlib.Core.Path.{sym, subst}

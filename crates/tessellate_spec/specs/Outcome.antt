@@ -3,12 +3,12 @@
 -- How to read this beside the Rust. The Rust takes a primitive, a default system and options, and returns a mesh. Here:
 -- - `Job` holds what the Rust reads: the shape, the list lent beside it, its own system or none, the default system, the options, and the
 --   operations of its transform. `ops` is the array of 16, `count` says how many of them count, `degrees` whether their angles are in degrees.
--- - `jobParts` is the Rust's `match` (specs/Solid.antt, `partsOf`), in the system of `shape_cs`; points are converted where the Rust's
---   `to_cartesian` converts them.
+-- - `jobParts` is the Rust's `match` (crate solid_spec, specs/Solid.antt, `partsOf`), in the system of `shape_cs`; points are converted
+--   where the Rust's `to_cartesian` converts them.
 -- - `weldedMesh` is the `mesh` after the match: `from_soup` of the soup, or of each part with `append`; a rotated outline is flipped where its
 --   volume is below 0.
 -- - `finalMesh` is the `mesh` that is returned: `mesh.transform(..)` unless the transform is empty.
--- - `refusalOf` has the checks in the order of docs/SCOPE.md, "Refusals", one line each: 6; 3, 4, 1, 2 (crate shape, `drawingRefusal`); 5 over the
+-- - `refusalOf` has the checks in the order of docs/SCOPE.md, "Order of checks", one line each: 6; 3, 4, 1, 2 (crate shape, `drawingRefusal`); 5 over the
 --   whole soup; 7; 5 over the transformed vertices. The first one that is due is the answer; none is `Accepted`.
 -- - `tessellateOf` is the outcome: the refusal, the record, and the whole final content of the vertex, the triangle and the work slice, whose
 --   lengths are the `Lent` n (crate mesh_made, specs/Made.antt).
