@@ -25,7 +25,9 @@ byBitsOf b = cond (isSmallPower b) (ascii "2^-" ++ decimalOf (1023 - b / 4503599
 abbrev pub half : Float
 half = ofBits binary64 0x3FE0000000000000
 
--- a float that is not below zero: a whole number in decimal, a whole number and a half with .5, any other by its bits
+-- a float that is not below zero: a whole number in decimal; where y + 0.5, rounded once, is whole, the ceiling of y - 0.5 with .5; any other by its bits.
+-- A whole number and a half meets the second, and so may a float within an ulp of one: 1.5000000000000002 prints 2.5. It is meant for the values of the
+-- figures, which are exact. 2^-1 prints 0.5, and the powers below 2^-1022 print by their bits.
 unfoldable pub magnitudeOf : ℕ → List ℕ
 magnitudeOf b =
     cond (isWhole (ofBits binary64 b)) (decimalOf (ceiling (ofBits binary64 b)))

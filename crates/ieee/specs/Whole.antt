@@ -1,4 +1,4 @@
--- The whole number nearest to a float, halves away from zero, and that number modulo 4: docs/SCOPE.md's q and q mod 4.
+-- A float rounded to a whole number, where a half goes away from zero, and what is left of that number by 4: q and q mod 4 of docs/SCOPE.md, T2.
 use Prim.Native.Nat.{ℕ, _+_, _-_, _*_, _/_, _%_}
 use mathlib.Core.Bool.{Bool, true, false}
 use lib.IntN.{ℤ, pos, negsuc, negℤ}

@@ -129,7 +129,7 @@ along r p =
     (add binary64 (add binary64 (mul binary64 (r .x) (p .x)) (mul binary64 (r .y) (p .y))) (mul binary64 (r .z) (p .z)))
     (r .w)
 
--- the last lines of `Mat4::transform_point`: x, y, z divided by w unless w is 0 or 1
+-- the last lines of `Mat4::transform_point`: x, y, z divided by w where w is neither 0 nor 1
 unfoldable pub overW : Float → Float → Float → Float → Vec3
 overW x y z w = cond (ne w one && ne w plusZero) (new (div binary64 x w) (div binary64 y w) (div binary64 z w)) (new x y z)
 

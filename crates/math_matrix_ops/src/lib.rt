@@ -55,7 +55,7 @@ fn along(r: Row, p: Vec3) -> f64
     r.x * p.x + r.y * p.y + r.z * p.z + r.w
 }
 
-// x, y and z, divided by w unless w is 0 or 1.
+// x, y and z, divided by w where w is neither 0 nor 1.
 fn over_w(x: f64, y: f64, z: f64, w: f64) -> Vec3
     ensures { λ r. ⌜ r ≡ Mat.overW x y z w ⌝ }
 {
@@ -70,7 +70,7 @@ fn over_w(x: f64, y: f64, z: f64, w: f64) -> Vec3
     }
 }
 
-// The point p under the matrix: divided by w unless w is 0 or 1.
+// The point p under the matrix: divided by w where w is neither 0 nor 1.
 pub fn transform_point(a: Mat4, p: Vec3) -> Vec3
     ensures { λ r. ⌜ r ≡ Mat.transformPoint a p ⌝ }
 {

@@ -41,7 +41,7 @@ outcome (Append o) s = appendOf s o
 outcome Flip s = flipOf s
 outcome (Transform ops count degrees) s = transformOf ops count degrees s
 
--- each call gets the record and slices as the last one left them
+-- the state that a list of calls leaves: each call begins with what the call before left
 abbrev pub after : State → List Call → State
 after s [] = s
 after s (c ∷ cs) = after (outcome c s .state) cs

@@ -27,7 +27,7 @@ module _ {P : Type 0} where
     pub balanced-keep : (ts : List (Tri P)) → Balanced ts → Balanced (keepIf k ts)
     balanced-keep ts p w = omega (arith, keep-even w ts, p w)
 
--- the directed edges of a soup: triangle (a, b, c) uses (a, b), (b, c) and (c, a) once each
+-- the directed edges of a soup: three a triangle, from each corner to the next one
 abbrev pub edges : {P : Type 0} → List (Tri P) → List (P × P)
 edges [] = []
 edges (t ∷ ts) = (t .0, t .1) ∷ (t .1, t .2) ∷ (t .2, t .0) ∷ edges ts

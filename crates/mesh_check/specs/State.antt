@@ -36,7 +36,7 @@ stored m s = record {
   triangles = flat (m .triangles) ++ drop (3 * length (m .triangles)) (s .triangles);
 }
 
--- 8: a count beyond its slice or above 4,294,967,295, or a triangle number at or above the vertex count
+-- 8: a count is above the whole places of its slice, of which at most 4,294,967,295 count, or a number in a triangle is not below the vertex count
 unfoldable pub badMesh : State → Bool
 unfolding countedPlaces every
 badMesh s =
@@ -49,7 +49,7 @@ unfoldable pub notFinite : State → Bool
 unfolding every
 notFinite s = not (every finite (take (3 * s .mesh .vertices) (s .vertices)))
 
--- 7: a mesh has more vertices or triangles than whole places, or more than 4,294,967,295 of either; the slices have nv floats and nt numbers
+-- 7: slices of nv floats and nt numbers have too few whole places for the vertices or the triangles of a mesh; at most 4,294,967,295 places count
 unfoldable pub tooFewPlaces : Mesh → ℕ → ℕ → Bool
 tooFewPlaces m nv nt = ltb (countedPlaces nv) (length (m .vertices)) || ltb (countedPlaces nt) (length (m .triangles))
 

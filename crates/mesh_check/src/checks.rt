@@ -3,7 +3,7 @@ ghost use mathlib.Core.Path.{_≡_};
 ghost use Rattle.mesh_check.specs.State.{state, badMesh};
 use crate::TriMesh;
 
-// 8: a count beyond its slice or above 4,294,967,295, or a number at or above the vertex count.
+// 8: a count is above the whole places of its slice, of which at most 4,294,967,295 count, or a number in a triangle is not below the vertex count.
 pub fn bad_mesh(mesh: TriMesh, vertices: &[f64], triangles: &[u32]) -> bool
     ensures { λ r. ⌜ r ≡ badMesh (state mesh (now (vertices .entry)) (now (triangles .entry))) ⌝ }
 {

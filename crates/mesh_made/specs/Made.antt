@@ -26,7 +26,7 @@ pub record Lent : Type 0 where
 abbrev pub lent : List Float → List ℕ → List ℕ → Lent
 lent vs ts ws = record { vertices = length vs; triangles = length ts; work = length ws }
 
--- 6: the work slice is shorter than 2 × the whole vertex places lent, for slices of so many floats and numbers
+-- 6: a work slice of so many numbers has fewer than two for each whole place of a vertex slice of so many floats
 unfoldable pub shortWork : ℕ → ℕ → Bool
 shortWork vertices work = ltb work (2 * (vertices / 3))
 

@@ -66,7 +66,7 @@ pub fn judge(w: Welder) -> Made
     accepted(record_of(w.count, w.faces))
 }
 
-// The counted places stay. Every later place is zero, a broken last one included, and so is the work slice.
+// The counted places stay. Every later element is zero, those of a last place that is not whole too, and so is the work slice.
 fn keep(mesh: TriMesh, vertices: &mut [f64], triangles: &mut [u32], work: &mut [u32])
     requires { ⌜ (3 * mesh .vertices ≤ length (now vertices)) × (3 * mesh .triangles ≤ length (now triangles)) ⌝ }
     ensures { λ _. ⌜ Keeps mesh (now (vertices .entry)) (now (triangles .entry)) (now (work .entry))

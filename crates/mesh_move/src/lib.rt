@@ -17,7 +17,7 @@ use mesh_triples::put_vertex;
 use mesh_triples::vertex;
 pub use under_matrix::move_mesh;
 
-// Whether the first n vertices are finite after the matrix. A point is divided by its fourth coordinate.
+// Whether the first n vertices are finite after the matrix. A point is divided by its fourth coordinate where that is neither 0 nor 1.
 fn stay_finite_divided(vertices: &[f64], n: usize, a: Mat4) -> bool
     requires { ⌜ 3 * n ≤ length (now vertices) ⌝ }
     ensures { λ r. ⌜ r ≡ every vFinite (map (transformPoint a) (points (take (3 * n) (now (vertices .entry))))) ⌝ }
@@ -31,7 +31,7 @@ fn stay_finite_divided(vertices: &[f64], n: usize, a: Mat4) -> bool
     ok
 }
 
-// Puts the first n vertices under the matrix. A point is divided by its fourth coordinate.
+// Puts the first n vertices under the matrix. A point is divided by its fourth coordinate where that is neither 0 nor 1.
 fn move_divided(vertices: &mut [f64], n: usize, a: Mat4)
     requires { ⌜ 3 * n ≤ length (now vertices) ⌝ }
     ensures { λ _. ⌜ now (vertices .exit) ≡ eachTo (movedTriple a) n (now (vertices .entry)) ⌝ }

@@ -21,7 +21,7 @@ below n t = ltb (t .0) n && ltb (t .1) n && ltb (t .2) n
 abbrev pub NoneTwice : Mesh → Type 0
 NoneTwice m = T (allOf distinct (m .triangles))
 
--- no triangle names a vertex that isn't there
+-- every vertex that a triangle names is there: its number is below the vertex count
 abbrev pub AllThere : Mesh → Type 0
 AllThere m = T (allOf (below (length (m .vertices))) (m .triangles))
 

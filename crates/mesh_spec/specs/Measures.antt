@@ -38,7 +38,7 @@ unfoldable pub area : Mesh → Float
 unfolding triangleSoup sumOf areaTerm
 area m = sumOf areaTerm (ofBits binary64 0) (triangleSoup m)
 
--- enclosed volume: the absolute value of `signed_volume`
+-- enclosed volume: `signed_volume` without its sign
 unfoldable pub enclosedVolume : Mesh → Float
 unfolding signedVolume
 enclosedVolume m = absolute (signedVolume m)

@@ -91,7 +91,7 @@ unfolding fromSoup append
 appendParts m [] = m
 appendParts m (p ∷ ps) = appendParts (append m (fromSoup p)) ps
 
--- the mesh of a multi-box or a wire: each part is welded by itself and appended
+-- the mesh of a shape's parts, several for a multi-box or a wire and one for any other shape: each is welded by itself and appended
 unfoldable pub fromParts : List (List (Tri Vec3)) → Mesh
 unfolding appendParts
 fromParts parts = appendParts noMesh parts

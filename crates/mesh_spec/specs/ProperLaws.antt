@@ -1,4 +1,4 @@
--- `append`, `flip` and `transform` keep a mesh without a triangle that names one vertex twice or a vertex that isn't there. Assumes nothing.
+-- `append`, `flip` and `transform` keep `NoneTwice` and `AllThere`: three different vertices a triangle, and each of them there. Assumes nothing.
 use mathlib.Core.Path.{_≡_, refl, sym}
 use mathlib.Core.Bool.{Bool, true, false, not, _&&_, cond}
 use mathlib.Core.List.{List, [], _∷_, _++_, map}

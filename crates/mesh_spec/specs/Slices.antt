@@ -1,4 +1,5 @@
--- How a mesh lies in lent slices (docs/SCOPE.md, "Lent memory"): three floats a vertex. Triangles are `flat` and `tris` of balance's Buffer. Definitions only.
+-- How a mesh lies in lent slices (docs/SCOPE.md, "Lent memory"): three floats a vertex. Triangles are `flat` and `tris` of mesh_balance_spec.
+-- Definitions only.
 use mathlib.Core.List.{List, [], _∷_, _++_}
 use Prim.Native.Nat.{ℕ, _+_, _*_}
 use lib.ListN.{getD}

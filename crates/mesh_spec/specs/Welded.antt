@@ -54,7 +54,7 @@ unfolding weldSoup
 soup-proper S [] P = P
 soup-proper S (t ∷ soup) P = soup-proper (weldTriangle S t) soup (triangle-proper S t P)
 
--- no triangle of a welded mesh names one vertex twice or a vertex that isn't there
+-- each triangle of a welded mesh names three different vertices, all of them there
 pub fromSoup-proper : (soup : List (Tri Vec3)) → Proper (fromSoup soup)
 unfolding fromSoup allOf
 fromSoup-proper soup = soup-proper noMesh soup (record { noneTwice = tt; allThere = tt })

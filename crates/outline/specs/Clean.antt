@@ -1,4 +1,4 @@
--- `clean_polygon` of src/tessellate.rs: neighbours that are equal go, then last corners equal to the first. Assumes nothing.
+-- `clean_polygon` of src/tessellate.rs: drops a corner equal to the one kept before it, then, from the end, corners equal to the first. Assumes nothing.
 use Prim.Native.Nat.{ℕ, zero, suc, _-_, _*_, _/_}
 use mathlib.Core.Bool.{Bool, cond, _&&_}
 use mathlib.Core.List.{List, [], _∷_, _++_}

@@ -13,7 +13,7 @@ zero = fin false 0 (pos 0)
 abbrev one : Float
 one = fin false 1 (pos 0)
 
--- (0,0) (0,0) (1,0) (1,1) (0,0) clean to three
+-- docs/SCOPE.md, F3: a corner that is given twice, and the closing corner, are cleaned away
 pub cleans-to-three : cleanPolygon (zero ∷ zero ∷ zero ∷ zero ∷ one ∷ zero ∷ one ∷ one ∷ zero ∷ zero ∷ []) ≡ zero ∷ zero ∷ one ∷ zero ∷ one ∷ one ∷ []
 unfolding cleanPolygon gathered pushed endsIn stay point same eq
 cleans-to-three = refl

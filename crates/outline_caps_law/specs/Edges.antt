@@ -12,7 +12,7 @@ use Rattle.mesh_balance_spec.specs.Soup.{Weight, rev}
 use Rattle.outline_ears.specs.Ears.{ip, inx}
 use Rattle.outline_triangulate.specs.Triangulate.{without, fans, fan}
 
--- the weights of the edges of triangles, three numbers to a triangle: (a, b), (b, c) and (c, a)
+-- the weights of the edges of triangles, three numbers to a triangle: from each corner to the next one
 unfoldable pub edges : Weight ℕ → List ℕ → ℕ
 edges w [] = 0
 edges w (a ∷ []) = 0

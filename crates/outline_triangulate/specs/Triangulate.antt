@@ -11,7 +11,7 @@ use Rattle.outline_ears.specs.Ears.{cross, tolerance, ip, inx, counting, firstE
 use Rattle.outline_ears.specs.declared.Found.{Found}
 use Rattle.outline_ears.specs.declared.Found.the-variants.{At, Nothing}
 
--- a state of the clipper: the Rust's idx, its out as a list of numbers, and docs/SCOPE.md's count of corners removed singly, clipped or dropped
+-- a state of the clipper: the Rust's idx, its out as a list of numbers, and the number of corners that were clipped or dropped one by one (S21)
 pub record Clipping : Type 0 where
   pub idx : List ℕ
   pub triangles : List ℕ
@@ -56,7 +56,7 @@ unfoldable pub byFound : Found → (ℕ → Clipping) → Clipping → Clipping
 byFound (At k) f s = f k
 byFound Nothing f s = s
 
--- one pass of the Rust's while loop: the first unblocked ear is clipped; with none, the first flat corner goes; with none, the rest is fanned
+-- one pass of the Rust's while loop: it clips the first ear that nothing blocks, failing that drops the first flat corner, failing that fans what remains
 unfoldable pub pass : List Float → Float → Clipping → Clipping
 unfolding byFound
 pass v eps s = byFound (firstEar v eps (s .idx)) (clipped s) (byFound (firstFlat v eps (s .idx)) (dropped s) (fanned s))

@@ -10,8 +10,8 @@ use crate::Passed;
 use crate::lists;
 use outline_ears::Found;
 
-// One pass over idx, the first m numbers of the array: the first unblocked ear is clipped; with none, the first flat corner goes; with none, the rest is
-// fanned.
+// One pass over idx, the first m numbers of the array: it clips the first ear that nothing blocks, failing that drops the first flat corner, failing that
+// fans what remains.
 fn pass(v: &[f64], eps: f64, idx: &[u32; 512], m: usize, cut: Cut, out: &mut [u32]) -> Passed
     requires { ⌜ (3 < m) × Inside (now v) (now idx) m × Room m cut (now out) ⌝ }
     ensures { λ r. ⌜ Passing (now (v .entry)) eps (now (idx .entry)) m cut (now (out .entry)) r (now (out .exit)) ⌝ }

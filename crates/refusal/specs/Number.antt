@@ -4,7 +4,7 @@ use Rattle.refusal.specs.declared.Refusal.{Refusal}
 use Rattle.refusal.specs.declared.Refusal.the-variants.{Accepted, NotFinite, AngleTooLarge, TooManySegments, BadList, PointNotFinite, ShortWork, NoRoom}
 use Rattle.refusal.specs.declared.Refusal.the-variants.{BadMesh}
 
--- 1 to 5 are of what is drawn, 6 to 8 of the slices that are lent; 0 is no refusal
+-- 1 to 5 judge numbers and lists, 6 to 8 the lengths of lent slices and the counts and vertex numbers of a mesh; 0 is no refusal
 abbrev pub numberOf : Refusal → ℕ
 numberOf Accepted = 0
 numberOf NotFinite = 1

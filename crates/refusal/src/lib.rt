@@ -6,21 +6,21 @@ ghost use Rattle.refusal.specs.Number.{numberOf};
 // The answer of a call: accepted, or why it was refused.
 pub enum Refusal {
     Accepted,
-    // A number given is not finite.
+    // A float of a drawing, of an operation or of a mesh handed in is an infinity or a NaN.
     NotFinite,
-    // An angle exceeds 1,000 in absolute value.
+    // The absolute value of an angle is above 1,000.
     AngleTooLarge,
-    // Segments or rings above 1,024.
+    // More than 1,024 segments or rings.
     TooManySegments,
-    // A list length is not whole items, or there are too many items.
+    // A list or a soup ends within an item, or a list has too many items.
     BadList,
-    // A point of the solid or a transformed vertex has a coordinate that is not finite.
+    // A coordinate is not finite: of a point of the solid or the soup, or of a vertex after the operations.
     PointNotFinite,
-    // The work slice is shorter than twice the whole vertex places.
+    // The work slice has fewer than two numbers for each whole vertex place.
     ShortWork,
-    // More vertices or triangles than whole places.
+    // The slices have too few whole places for the mesh, or one of its counts would be above 4,294,967,295.
     NoRoom,
-    // A mesh handed in has a count or a vertex number that is too large.
+    // Of a mesh handed in, a count or a vertex number is too large.
     BadMesh,
 }
 

@@ -1,4 +1,4 @@
-// What the calls of a case do to the meshes A and B of a run, but for the library's own calls. Nothing here reads or writes.
+// What the calls of a case do to the meshes A and B of a run, but for the library's own calls. There is no input or output here.
 mod agreement;
 mod exchanging;
 mod session;

@@ -1,4 +1,4 @@
-// A case by the bytes of its head: its shape and coordinate systems, its operations, and what it asks for. Nothing here reads or writes.
+// A case by the bytes of its head: its shape and coordinate systems, its operations, and what it asks for. There is no input or output here.
 mod asked;
 mod case;
 mod kept;

@@ -37,7 +37,7 @@ arc-few n segments span e h = omega (arith, e, arcSegments-few segments span h)
 pub arc-some : (n segments : ℕ) (span : Float) → n ≡ arcSegments segments span → 0 < n
 arc-some n segments span e = omega (arith, e, arcSegments-some segments span)
 
--- 32 segments: span 0 gives 1, PI and −PI 16, TAU 32
+-- docs/SCOPE.md, F6: arcs of four spans
 pub arc-zero : arcSegments 32 plusZero ≡ 1
 unfolding arcSegments arcShare countedSpan ceiling minimum absolute isNan lt mul div ofInt ofBits
 arc-zero = refl

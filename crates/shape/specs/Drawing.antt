@@ -32,7 +32,7 @@ unfoldable pub effectiveCs : OwnSystem → CoordSystem → CoordSystem
 effectiveCs Inherited default = default
 effectiveCs (Own cs) default = cs
 
--- Primitive::shape_cs: a multi-box uses the default system, never its own
+-- Primitive::shape_cs: the effective system, but for a multi-box, which is always taken in the default one
 unfoldable pub shapeCs : Shape → OwnSystem → CoordSystem → CoordSystem
 shapeCs (Box a b) own default = effectiveCs own default
 shapeCs MultiBox own default = default
@@ -52,7 +52,7 @@ cylindrical Cylindrical = true
 
 -- ---- refusal 3
 
--- segments or rings above 1,024
+-- more than 1,024 segments or rings
 unfoldable pub tooManySegments : TessellationOptions → Bool
 tooManySegments o = ltb 1024 (o .segments) || ltb 1024 (o .«sphere_rings»)
 

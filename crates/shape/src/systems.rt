@@ -15,7 +15,7 @@ fn effective_cs(own: OwnSystem, default: CoordSystem) -> CoordSystem
     }
 }
 
-// Primitive::shape_cs: a multi-box uses the default system.
+// Primitive::shape_cs: the effective system, but for a multi-box, which is always taken in the default one.
 pub fn shape_cs(shape: Shape, own: OwnSystem, default: CoordSystem) -> CoordSystem
     ensures { λ r. ⌜ r ≡ Drawing.shapeCs shape own default ⌝ }
 {

@@ -1,4 +1,4 @@
-// Refusal 2 of docs/SCOPE.md on what was drawn: an angle exceeds 1,000 in absolute value.
+// Refusal 2 of docs/SCOPE.md on what was drawn: the absolute value of an angle is above 1,000.
 ghost use mathlib.Core.Path.{_≡_};
 ghost use lib.ListN.{take};
 ghost use Rattle.shape.specs.Drawing as Drawing;

@@ -1,4 +1,4 @@
-// Refusal 1 of docs/SCOPE.md on what was drawn: a number given is not finite.
+// Refusal 1 of docs/SCOPE.md on what was drawn: a float is an infinity or a NaN.
 ghost use mathlib.Core.Path.{_≡_};
 ghost use lib.ListN.{take};
 ghost use lib.Ieee.Scale.{finite};

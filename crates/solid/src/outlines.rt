@@ -9,7 +9,7 @@ ghost use Rattle.solid.specs.Soups.{outlineSoup};
 use shape::Shape;
 use weld::Welder;
 
-// A direction above 2 counts as 2.
+// The axis of a direction: 3 to 255 are taken as 2.
 fn direction(n: u8) -> usize
     ensures { λ r. ⌜ (r ≡ min n 2) × (r ≤ 2) ⌝ }
 {

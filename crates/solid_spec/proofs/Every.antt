@@ -1,4 +1,5 @@
--- What holds of every point of a soup, and what that says of the points of a grid. Laws of `grid`: as balance's grids, under a map of the points, its balance.
+-- What holds of every point of a soup, and what that says of the points of a grid. Laws of `grid`: as mesh_balance_spec's grids, under a map of the
+-- points, its balance.
 use mathlib.Core.Path.{_≡_, refl, sym, ap, _∙_, subst}
 use mathlib.Core.Logic.{inl, inr}
 use mathlib.Core.List.{List, [], _∷_, _++_, map}

@@ -32,7 +32,7 @@ tube a d len r0 r1 segments =
     paramBox (new (maximum r0 plusZero) plusZero plusZero) (new r1 tau len) (three 1 (max segments 3) 1) (three false true false)
     (aroundAxis a d (frame1 d) (frame2 d))
 
--- `cylinder`: nothing where the length comes out as 0 or the outer radius is not above 0
+-- `cylinder`: nothing where the length comes out as 0 or the outer radius is at most 0
 unfoldable pub cylinder : Vec3 → Vec3 → Float → Float → ℕ → Soup
 cylinder a b r0 r1 segments =
     let v = vSub b a in

@@ -48,7 +48,7 @@ extrudedPolygon n v lo hi =
     let p = ccwPolygon v in
     extrudedFrom n p (capTriangles p) lo hi
 
--- the case Polygon of `tessellate`: a direction above 2 counts as 2
+-- the case Polygon of `tessellate`: a direction from 3 on is taken as 2
 unfoldable pub polygonSoup : ℕ → List Float → Float → Soup
 polygonSoup n v elevation = extrudedPolygon (min n 2) v elevation elevation
 

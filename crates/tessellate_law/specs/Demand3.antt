@@ -33,11 +33,11 @@ use Rattle.solid_spec.specs.BalancedParts.{EachPart}
 -- ---- the statement
 
 pub record Demand3 : Type 0 where
-  -- an accepted solid of the list is closed: its edges balance, no triangle names one vertex twice or a vertex that isn't there
+  -- an accepted solid of the list is closed: its edges balance, and each triangle names three different vertices, all of them there
   pub closed : (j : Job) (n : Lent) → Accepts j n → FitsSolid (j .shape) (j .list) → Solid (j .shape) (j .list) → Closed (given j n)
-  -- of every accepted shape, no triangle names one vertex twice
+  -- of every accepted shape, a triangle names three different vertices
   pub noneTwice : (j : Job) (n : Lent) → Accepts j n → NoneTwice (given j n)
-  -- nor a vertex that isn't there
+  -- and each of them is there
   pub allThere : (j : Job) (n : Lent) → Accepts j n → AllThere (given j n)
   -- any list of appends, flips and transforms keeps a mesh closed, and keeps each of the three properties by itself, for any start
   pub lists : KeptByLists
@@ -47,7 +47,7 @@ pub record Demand3 : Type 0 where
 
 -- ---- what the mesh of a job keeps
 
--- a property of the empty mesh, of each welded soup, and kept by the three edits
+-- a property that the empty mesh has and that the three edits keep
 record KeptByDrawing (P : Mesh → Type 0) : Type 0 where
   empty : P noMesh
   appended : (m o : Mesh) → P m → P o → P (append m o)

@@ -19,7 +19,7 @@ pub record Promise (j : Job) (n : Lent) (r : Made) (vs : List Float) (ts ws : Li
   pub outcome : GivesMade (tessellateOf j n) r vs ts ws
   -- an accepted solid of demand 3's list leaves a closed mesh
   pub closed : r .refusal ≡ Accepted → Solid (j .shape) (j .list) → Closed (meshOf (state (r .mesh) vs ts))
-  -- whatever the accepted shape, no triangle names one vertex twice, or a vertex that isn't there
+  -- whichever shape is accepted, each triangle names three different vertices, all of them there
   pub proper : r .refusal ≡ Accepted → Proper (meshOf (state (r .mesh) vs ts))
   -- and the solid is closed after any list of calls in which each mesh appended is closed
   pub closedAfter : r .refusal ≡ Accepted → Solid (j .shape) (j .list)

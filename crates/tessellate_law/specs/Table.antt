@@ -1,4 +1,4 @@
--- docs/SCOPE.md, "Figures": every figure marked (P), in one table under one theorem, by computation on the definitions that the contracts cite.
+-- docs/SCOPE.md, "Figures": every figure marked (P), as one table that one theorem proves, by computation on the definitions that the contracts cite.
 -- Assumes nothing.
 use mathlib.Core.Path.{_≡_, refl, ap, _∙_, subst}
 use mathlib.Core.Bool.{false}
@@ -90,42 +90,42 @@ line = triangulatePolygon (corners ((0, 0) ∷ (1, 0) ∷ (2, 0) ∷ (3, 0) ∷ 
 -- ---- the table
 
 pub record Figures : Type 0 where
-  -- Box (0,0,0) to (1,2,3): accepted, 8 vertices, 12 triangles
+  -- F1: the box is accepted, and has so many vertices and triangles
   pub box-accepted : Accepts boxJob (slices 24 36 16)
   pub box-vertices : length (box .vertices) ≡ 8
   pub box-triangles : length (box .triangles) ≡ 12
-  -- first vertices (0,0,0), (0,0,3), (0,2,3), (0,2,0); first triangles 0 1 2 and 0 2 3
+  -- F1: those that it begins with
   pub box-first-vertices : take 4 (box .vertices) ≡ at 0 0 0 ∷ at 0 0 3 ∷ at 0 2 3 ∷ at 0 2 0 ∷ []
   pub box-first-triangles : take 2 (box .triangles) ≡ (0, 1, 2) ∷ (0, 2, 3) ∷ []
-  -- its area is 22, signed volume 6
+  -- F1: its measures
   pub box-area : area box ≡ float 22
   pub box-volume : signedVolume box ≡ float 6
-  -- Box (0,0,0) to (1,2,0): accepted, 4 vertices, 2 triangles, area 2, open
+  -- F2: the flat box is accepted, has one sheet of two triangles, and is open
   pub flat-accepted : Accepts flatJob (slices 12 6 8)
   pub flat-vertices : length (flatBox .vertices) ≡ 4
   pub flat-triangles : length (flatBox .triangles) ≡ 2
   pub flat-area : area flatBox ≡ float 2
   pub flat-open : EdgesBalance (flatBox .triangles) → ⊥
-  -- corners (0,0) (0,0) (1,0) (1,1) (0,0) clean to three
+  -- F3: a corner that is given twice, and the closing corner, are cleaned away
   pub cleans-to-three : cleanPolygon (corners ((0, 0) ∷ (0, 0) ∷ (1, 0) ∷ (1, 1) ∷ (0, 0) ∷ [])) ≡ corners ((0, 0) ∷ (1, 0) ∷ (1, 1) ∷ [])
-  -- square (0,0) (1,0) (1,1) (0,1): triangles 3 0 1 and 1 2 3, one removed
+  -- F4: the triangles of the square, and its number of corners removed singly
   pub square-triangles : square .triangles ≡ 3 ∷ 0 ∷ 1 ∷ 1 ∷ 2 ∷ 3 ∷ []
   pub square-removed : square .removed ≡ 1
-  -- (0,0) (1,0) (2,0) (3,0): no triangles, one removed
+  -- F5: corners on a line
   pub line-triangles : line .triangles ≡ []
   pub line-removed : line .removed ≡ 1
-  -- two corners: none
+  -- F5: any two corners
   pub two-corners : (a b c d : Float) → triangulatePolygon (a ∷ b ∷ c ∷ d ∷ []) .triangles ≡ []
-  -- 32 segments: span 0 gives 1, PI and −PI 16, TAU 32
+  -- F6: arcs of four spans
   pub span-zero : arcSegments 32 (float 0) ≡ 1
   pub span-pi : arcSegments 32 pi ≡ 16
   pub span-minus-pi : arcSegments 32 (neg pi) ≡ 16
   pub span-tau : arcSegments 32 tau ≡ 32
-  -- roots: 4 gives 2, −0 gives −0, 2⁻¹⁰⁷⁴ gives 2⁻⁵³⁷; `fin s m e` is m × 2^e, negative where s says so, and `negsuc n` is -(n + 1)
+  -- F7: three roots; `fin s m e` is m × 2^e, negative where s says so, and `negsuc n` is -(n + 1)
   pub root-four : sqrt binary64 (float 4) ≡ float 2
   pub root-minus-zero : sqrt binary64 (neg (float 0)) ≡ neg (float 0)
   pub root-least : sqrt binary64 (fin false 1 (negsuc 1073)) ≡ fin false 1 (negsuc 536)
-  -- sphere r = 0: nothing, for any centre, segments, rings and slices with which it is accepted
+  -- F8: a sphere of radius 0 has no mesh, for any centre, segments, rings and slices with which it is accepted
   pub no-sphere : (center : Vec3) (o : TessellationOptions) (n : Lent) → Accepts (drawn (Sphere center (float 0)) o) n
       → given (drawn (Sphere center (float 0)) o) n ≡ noMesh
 

@@ -104,7 +104,7 @@ first-numbers : take 6 (tessellateOf box (of 24 36 16) .state .triangles) ≡ 0 
 unfolding computed
 first-numbers = refl
 
--- unused places are zero, a broken last one included
+-- later elements are zero, those of a last place that is not whole too
 rest-of-vertices : drop 24 (tessellateOf box (of 28 37 18) .state .vertices) ≡ float 0 ∷ float 0 ∷ float 0 ∷ float 0 ∷ []
 unfolding computed
 rest-of-vertices = refl
@@ -223,7 +223,7 @@ unfolding computed huge
 
 -- ---- systems
 
--- a multi-box uses the default system, whatever its own
+-- a multi-box is taken in the default system, whatever its own is
 multi-box-system : (own : OwnSystem) (default : CoordSystem) (v : List Float) (o : TessellationOptions) (degrees : Bool)
     → jobParts (record { shape = MultiBox; list = v; own = own; default = default; options = o; degrees = degrees; ops = []; count = 0 })
     ≡ multiBoxParts (cylindrical default) v (o .segments)

@@ -64,7 +64,7 @@ pub fn at_most_16(count: usize) -> usize
     if count < 16 { count } else { 16 }
 }
 
-// The matrix of the first `count` operations: the newest multiplies from the left.
+// The matrix of the first `count` operations: each in turn multiplies from the left what those before it gave.
 pub fn fold(ops: [TransformOp; 16], count: usize, degrees: bool) -> Mat4
     ensures { λ m. ⌜ m ≡ Ops.folded degrees (take count ops) ⌝ }
 {

@@ -63,7 +63,7 @@ pub record Holds (M : Mesh) (h : Held) : Type 0 where
   pub triangles : flat (M .triangles) ≡ take (3 * h .st .faces) (h .triangles)
   pub faces : length (M .triangles) ≡ h .st .faces
 
--- docs/SCOPE.md, refusal 7: the mesh has more vertices or triangles than whole places, or more than the limit of either
+-- docs/SCOPE.md, refusal 7: too few places for the vertices or the triangles of the mesh, as many places as count (`placesOf`)
 abbrev pub Over : Mesh → Held → Type 0
 Over M h = (placesOf (h .vertices) < length (M .vertices)) ⊎ (placesOf (h .triangles) < length (M .triangles))
 
