@@ -23,17 +23,23 @@ pub fn full(w: Welder) -> Welder
     t
 }
 
-// The state after a new vertex.
+// The state after a new vertex. All fields are written out, here and in `with_face`: a copy with some fields set afterwards takes longer, for each
+// vertex and triangle.
 pub fn grown(w: Welder, f: Foreseen) -> Welder
     requires { ⌜ w .count < 2 ^ 32 ⌝ }
     ensures { λ r. ⌜ r ≡ more w f ⌝ }
 {
-    let mut t = w;
-    t.count = w.count + 1;
-    t.near = f.near;
-    t.ordered = f.fresh;
-    t.rising = f.rising;
-    t
+    Welder {
+        base: w.base,
+        count: w.count + 1,
+        places: w.places,
+        faces: w.faces,
+        near: f.near,
+        finite: w.finite,
+        room: w.room,
+        ordered: f.fresh,
+        rising: f.rising,
+    }
 }
 
 // The state after a new triangle.
@@ -41,9 +47,17 @@ pub fn with_face(w: Welder) -> Welder
     requires { ⌜ w .faces < 2 ^ 32 ⌝ }
     ensures { λ r. ⌜ r ≡ moreFaces w ⌝ }
 {
-    let mut t = w;
-    t.faces = w.faces + 1;
-    t
+    Welder {
+        base: w.base,
+        count: w.count,
+        places: w.places,
+        faces: w.faces + 1,
+        near: w.near,
+        finite: w.finite,
+        room: w.room,
+        ordered: w.ordered,
+        rising: w.rising,
+    }
 }
 
 // The state after all vertices of this part went into the chains.
