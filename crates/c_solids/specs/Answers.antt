@@ -14,7 +14,7 @@ use Rattle.shape.specs.declared.Shape.{Shape}
 use Rattle.shape.specs.declared.OwnSystem.the-variants.{Inherited}
 use Rattle.shape.specs.declared.CoordSystem.{CoordSystem}
 use Rattle.shape.specs.declared.CoordSystem.the-variants.{Cartesian}
-use Rattle.mesh_check.specs.declared.TriMesh.{TriMesh}
+use Rattle.mesh_check.specs.State.{recordOf}
 use Rattle.mesh.specs.Outcome.{EditOutcome}
 use Rattle.mesh_made.specs.Made.{Lent, Ending}
 use Rattle.tessellate_spec.specs.Outcome.{job, tessellateOf}
@@ -22,9 +22,6 @@ use Rattle.tessellate_spec.specs.Outcome.{job, tessellateOf}
 -- a point by its numbers
 abbrev pub at : Float → Float → Float → Vec3
 at x y z = record { x = x; y = y; z = z }
-
-abbrev pub counts : ℕ → ℕ → TriMesh
-counts n k = record { vertices = n; triangles = k }
 
 -- the list beside a shape that has none
 abbrev pub unread : List Float
@@ -45,7 +42,7 @@ turnThenMove axis angle by = set (replicate mostOps (Translate by)) 0 (RotateOri
 -- the refusal's number, the counts and the slices' final lists are those of the ending of a call that makes a mesh
 pub record Tells (o : Ending) (number nv nt : ℕ) (vs : List Float) (ts ws : List ℕ) : Type 0 where
   pub refusal : number ≡ numberOf (o .refusal)
-  pub mesh : counts nv nt ≡ o .state .mesh
+  pub mesh : recordOf nv nt ≡ o .state .mesh
   pub vertices : vs ≡ o .state .vertices
   pub triangles : ts ≡ o .state .triangles
   pub work : ws ≡ o .work
@@ -53,6 +50,6 @@ pub record Tells (o : Ending) (number nv nt : ℕ) (vs : List Float) (ts ws : Li
 -- the same of an edit
 pub record Leaves (o : EditOutcome) (number nv nt : ℕ) (vs : List Float) (ts : List ℕ) : Type 0 where
   pub refusal : number ≡ numberOf (o .refusal)
-  pub mesh : counts nv nt ≡ o .state .mesh
+  pub mesh : recordOf nv nt ≡ o .state .mesh
   pub vertices : vs ≡ o .state .vertices
   pub triangles : ts ≡ o .state .triangles

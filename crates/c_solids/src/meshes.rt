@@ -1,12 +1,11 @@
 // The mesh calls. The counts of a mesh that is edited are given and answered through the same references.
 ghost use mathlib.Core.Path.{_≡_};
 ghost use mathlib.Core.Bool.{false};
-ghost use Rattle.mesh_check.specs.State.{state};
+ghost use Rattle.mesh_check.specs.State.{recordOf, state};
 ghost use Rattle.mesh_measures.specs.Measures.{areaOf, signedVolumeOf};
 ghost use Rattle.mesh.specs.Edits.{appendOf, flipOf, transformOf};
-ghost use Rattle.c_solids.specs.Answers.{counts, Leaves, at, turnThenMove};
+ghost use Rattle.c_solids.specs.Answers.{Leaves, at, turnThenMove};
 use math::Vec3;
-use mesh::TriMesh;
 use transform::TransformOp;
 
 // The bits of the area.
@@ -17,13 +16,10 @@ pub extern "C" fn sizturga_bench_area(
     vertices: &[f64],
     triangles: &[u32],
 ) -> u64
-    ensures { λ r. ⌜ r ≡ areaOf (state (counts «vertex_count» «triangle_count») (now (vertices .entry)) (now (triangles .entry))) .bits ⌝ }
+    ensures { λ r. ⌜ r ≡ areaOf (state (recordOf «vertex_count» «triangle_count») (now (vertices .entry)) (now (triangles .entry))) .bits ⌝ }
 {
     let m = mesh::area(
-        TriMesh {
-            vertices: vertex_count,
-            triangles: triangle_count,
-        },
+        mesh_check::record_of(vertex_count, triangle_count),
         vertices,
         triangles,
     );
@@ -38,13 +34,10 @@ pub extern "C" fn sizturga_bench_signed_volume(
     vertices: &[f64],
     triangles: &[u32],
 ) -> u64
-    ensures { λ r. ⌜ r ≡ signedVolumeOf (state (counts «vertex_count» «triangle_count») (now (vertices .entry)) (now (triangles .entry))) .bits ⌝ }
+    ensures { λ r. ⌜ r ≡ signedVolumeOf (state (recordOf «vertex_count» «triangle_count») (now (vertices .entry)) (now (triangles .entry))) .bits ⌝ }
 {
     let m = mesh::signed_volume(
-        TriMesh {
-            vertices: vertex_count,
-            triangles: triangle_count,
-        },
+        mesh_check::record_of(vertex_count, triangle_count),
         vertices,
         triangles,
     );
@@ -63,21 +56,15 @@ pub extern "C" fn sizturga_bench_append(
     other_triangles: &[u32],
 ) -> u32
     ensures { λ r. ⌜ Leaves
-        (appendOf (state (counts (now («vertex_count» .entry)) (now («triangle_count» .entry))) (now (vertices .entry)) (now (triangles .entry)))
-        (state (counts «other_vertex_count» «other_triangle_count») (now («other_vertices» .entry)) (now («other_triangles» .entry))))
+        (appendOf (state (recordOf (now («vertex_count» .entry)) (now («triangle_count» .entry))) (now (vertices .entry)) (now (triangles .entry)))
+        (state (recordOf «other_vertex_count» «other_triangle_count») (now («other_vertices» .entry)) (now («other_triangles» .entry))))
         r (now («vertex_count» .exit)) (now («triangle_count» .exit)) (now (vertices .exit)) (now (triangles .exit)) ⌝ }
 {
     let e = mesh::append(
-        TriMesh {
-            vertices: *vertex_count,
-            triangles: *triangle_count,
-        },
+        mesh_check::record_of(*vertex_count, *triangle_count),
         vertices,
         triangles,
-        TriMesh {
-            vertices: other_vertex_count,
-            triangles: other_triangle_count,
-        },
+        mesh_check::record_of(other_vertex_count, other_triangle_count),
         other_vertices,
         other_triangles,
     );
@@ -96,14 +83,11 @@ pub extern "C" fn sizturga_bench_flip(
     triangles: &mut [u32],
 ) -> u32
     ensures { λ r. ⌜ Leaves
-        (flipOf (state (counts (now («vertex_count» .entry)) (now («triangle_count» .entry))) (now (vertices .entry)) (now (triangles .entry))))
+        (flipOf (state (recordOf (now («vertex_count» .entry)) (now («triangle_count» .entry))) (now (vertices .entry)) (now (triangles .entry))))
         r (now («vertex_count» .exit)) (now («triangle_count» .exit)) (now (vertices .entry)) (now (triangles .exit)) ⌝ }
 {
     let e = mesh::flip(
-        TriMesh {
-            vertices: *vertex_count,
-            triangles: *triangle_count,
-        },
+        mesh_check::record_of(*vertex_count, *triangle_count),
         vertices,
         triangles,
     );
@@ -131,7 +115,7 @@ pub extern "C" fn sizturga_bench_transform(
 ) -> u32
     ensures { λ r. ⌜ Leaves
         (transformOf (turnThenMove (at «axis_x» «axis_y» «axis_z») angle (at x y z)) 2 false
-        (state (counts (now («vertex_count» .entry)) (now («triangle_count» .entry))) (now (vertices .entry)) (now (triangles .entry))))
+        (state (recordOf (now («vertex_count» .entry)) (now («triangle_count» .entry))) (now (vertices .entry)) (now (triangles .entry))))
         r (now («vertex_count» .exit)) (now («triangle_count» .exit)) (now (vertices .exit)) (now (triangles .exit)) ⌝ }
 {
     let shift = TransformOp::Translate(Vec3 { x, y, z });
@@ -145,10 +129,7 @@ pub extern "C" fn sizturga_bench_transform(
         angle,
     );
     let e = mesh::transform(
-        TriMesh {
-            vertices: *vertex_count,
-            triangles: *triangle_count,
-        },
+        mesh_check::record_of(*vertex_count, *triangle_count),
         vertices,
         triangles,
         ops,

@@ -15,7 +15,7 @@ use Rattle.mesh_spec.specs.ClosedLaws.{no-mesh-closed}
 use Rattle.mesh_spec.specs.ClosedExamples.{tetrahedron-closed}
 use Rattle.refusal.specs.declared.Refusal.the-variants.{Accepted, NoRoom}
 use Rattle.refusal.specs.Number.{numberOf}
-use Rattle.mesh_check.specs.State.{State, state, meshOf, stored, badMesh, notFinite, tooFewPlaces, checkOf}
+use Rattle.mesh_check.specs.State.{recordOf, State, state, meshOf, stored, badMesh, notFinite, tooFewPlaces, checkOf}
 use Rattle.mesh_refusals.specs.Append.{appendRefusal}
 use Rattle.mesh.specs.Outcome.{edited}
 use Rattle.mesh.specs.Edits.{appendOf, flipOf}
@@ -23,20 +23,20 @@ use Rattle.mesh.specs.Lists.{Call, Append, Flip, after, Brings, AllBring
 
 -- places for four vertices and four triangles, none of them counted
 abbrev start : State
-start = state (record { vertices = 0; triangles = 0 }) (replicate 12 plusZero) (replicate 12 0)
+start = state (recordOf 0 0) (replicate 12 plusZero) (replicate 12 0)
 
 -- a tetrahedron, and one triangle
 abbrev whole : State
-whole = state (record { vertices = 4; triangles = 4 }) (replicate 12 plusZero) (flat tetrahedron)
+whole = state (recordOf 4 4) (replicate 12 plusZero) (flat tetrahedron)
 
 abbrev sheet : State
-sheet = state (record { vertices = 3; triangles = 1 }) (replicate 9 plusZero) (0 ∷ 1 ∷ 2 ∷ [])
+sheet = state (recordOf 3 1) (replicate 9 plusZero) (0 ∷ 1 ∷ 2 ∷ [])
 
 abbrev calls : List Call
 calls = Append whole ∷ Flip ∷ Append sheet ∷ []
 
 -- the first two calls leave the tetrahedron turned, and the third changes nothing
-pub after-calls : after start calls ≡ state (record { vertices = 4; triangles = 4 }) (replicate 12 plusZero) (flat (map flipTri tetrahedron))
+pub after-calls : after start calls ≡ state (recordOf 4 4) (replicate 12 plusZero) (flat (map flipTri tetrahedron))
 unfolding appendOf flipOf edited appendRefusal checkOf badMesh notFinite tooFewPlaces countedPlaces every meshOf stored append flip
 after-calls = refl
 

@@ -38,10 +38,7 @@ pub fn append(
     mesh_write::copy_up(triangles, 3 * k, other_triangles, 3 * more_k, n as u32);
     Edited {
         refusal,
-        mesh: TriMesh {
-            vertices: n + more_n,
-            triangles: k + more_k,
-        },
+        mesh: mesh_check::record_of(n + more_n, k + more_k),
     }
 }
 

@@ -15,7 +15,7 @@ use Rattle.mesh_spec.specs.Mesh.{Mesh}
 use Rattle.mesh_spec.specs.Slices.{flatV}
 use Rattle.mesh_spec.specs.SliceLaws.{length-flatV}
 use Rattle.mesh_spec.specs.Closed.{allOf, below, AllThere}
-use Rattle.mesh_check.specs.State.{State, state, meshOf, stored, Sound}
+use Rattle.mesh_check.specs.State.{recordOf, State, state, meshOf, stored, Sound}
 use Rattle.mesh_check.specs.Places.{Whole}
 use Rattle.mesh_check.specs.StateLaws.{mesh-stored}
 use Rattle.mesh_check.proofs.Stored.{mesh-vertices, mesh-triangles, floats, numbers}
@@ -29,7 +29,7 @@ lies m s fv nv ft nt =
     = sym (take-append-drop (3 * s .mesh .vertices) (s .vertices)) ∙ (λ j. sym fv j ++ drop (3 * sym nv j) (s .vertices)) in
     let t : s .triangles ≡ flat (m .triangles) ++ drop (3 * length (m .triangles)) (s .triangles)
     = sym (take-append-drop (3 * s .mesh .triangles) (s .triangles)) ∙ (λ j. sym ft j ++ drop (3 * sym nt j) (s .triangles)) in
-    λ j. state (record { vertices = sym nv j; triangles = sym nt j }) (v j) (t j)
+    λ j. state (recordOf (sym nv j) (sym nt j)) (v j) (t j)
 
 -- the mesh that the slices hold lies in them
 pub stored-self : (s : State) → Sound s → s ≡ stored (meshOf s) s

@@ -17,18 +17,14 @@ use Rattle.mesh_spec.specs.Mesh.{Mesh, append, flip}
 use Rattle.mesh_spec.specs.Edits.{moved}
 use Rattle.mesh_spec.specs.Slices.{flatV, points, triOf, vecOf}
 use Rattle.mesh_spec.specs.SliceLaws.{flat-tris, flat-map, length-tris, points-tris, flatV-flat, flatV-append, flatV-points, length-points}
-use Rattle.mesh_check.specs.declared.TriMesh.{TriMesh}
-use Rattle.mesh_check.specs.State.{State, state, meshOf, stored, Sound}
+use Rattle.mesh_check.specs.State.{recordOf, State, state, meshOf, stored, Sound}
 use Rattle.mesh_triples.specs.Triples.{eachTo, movedTriple}
-
-abbrev counts : ℕ → ℕ → TriMesh
-counts n k = record { vertices = n; triangles = k }
 
 -- a stored mesh, where its counts and its floats and numbers are known
 stored-is : (m : Mesh) (s : State) (n k : ℕ) (fv : List Float) (ft : List ℕ) → length (m .vertices) ≡ n → length (m .triangles) ≡ k → flatV (m .vertices) ≡ fv → flat (m .triangles) ≡ ft
-    → stored m s ≡ state (counts n k) (fv ++ drop (3 * n) (s .vertices)) (ft ++ drop (3 * k) (s .triangles))
+    → stored m s ≡ state (recordOf n k) (fv ++ drop (3 * n) (s .vertices)) (ft ++ drop (3 * k) (s .triangles))
 unfolding stored
-stored-is m s n k fv ft en ek ev et = λ j. state (counts (en j) (ek j)) (ev j ++ drop (3 * en j) (s .vertices)) (et j ++ drop (3 * ek j) (s .triangles))
+stored-is m s n k fv ft en ek ev et = λ j. state (recordOf (en j) (ek j)) (ev j ++ drop (3 * en j) (s .vertices)) (et j ++ drop (3 * ek j) (s .triangles))
 
 -- ---- the mesh in the slices
 module _ (s : State) (ok : Sound s) where
@@ -65,7 +61,7 @@ module _ (s : State) (ok : Sound s) where
   unfolding flip eachTo meshOf
   stored-flip =
       stored-is (flip (meshOf s)) s n k (take (3 * n) (s .vertices)) (flat (map flipTri ts)) mesh-vertices (length-map ts flipTri ∙ mesh-triangles) floats refl
-      ∙ (λ j. state (counts n k) (take-append-drop (3 * n) (s .vertices) j) (flat (map flipTri ts) ++ drop (3 * k) (s .triangles)))
+      ∙ (λ j. state (recordOf n k) (take-append-drop (3 * n) (s .vertices) j) (flat (map flipTri ts) ++ drop (3 * k) (s .triangles)))
 
   -- ---- transform
   triples : (a : Mat4) → flatV (map (transformPoint a) ps) ≡ flat (map (movedTriple a) (tris (take (3 * n) (s .vertices))))
@@ -84,7 +80,7 @@ module _ (s : State) (ok : Sound s) where
   unfolding moved eachTo meshOf
   stored-moved a =
       stored-is (moved a (meshOf s)) s n k (flat (map (movedTriple a) (tris (take (3 * n) (s .vertices))))) (take (3 * k) (s .triangles)) (length-moved a) mesh-triangles (triples a) numbers
-      ∙ (λ j. state (counts n k) (flat (map (movedTriple a) (tris (take (3 * n) (s .vertices)))) ++ drop (3 * n) (s .vertices)) (take-append-drop (3 * k) (s .triangles) j))
+      ∙ (λ j. state (recordOf n k) (flat (map (movedTriple a) (tris (take (3 * n) (s .vertices)))) ++ drop (3 * n) (s .vertices)) (take-append-drop (3 * k) (s .triangles) j))
 
   pub stored-mirrored : (a : Mat4) → stored (flip (moved a (meshOf s))) s ≡ state (s .mesh) (eachTo (movedTriple a) n (s .vertices)) (eachTo flipTri k (s .triangles))
   unfolding flip moved eachTo meshOf
@@ -129,11 +125,11 @@ module _ (s o : State) (ok : Sound s) (fine : Sound o) where
   three-sum : (a b : ℕ) → 3 * (a + b) ≡ 3 * a + 3 * b
   three-sum a b = omega arith
 
-  pub stored-append : stored (append (meshOf s) (meshOf o)) s ≡ state (counts vn tn) (paste (s .vertices) (3 * s .mesh .vertices) (o .vertices) (3 * o .mesh .vertices))
+  pub stored-append : stored (append (meshOf s) (meshOf o)) s ≡ state (recordOf vn tn) (paste (s .vertices) (3 * s .mesh .vertices) (o .vertices) (3 * o .mesh .vertices))
       (paste (s .triangles) (3 * s .mesh .triangles) (map up (o .triangles)) (3 * o .mesh .triangles))
   stored-append =
       let fv = take (3 * s .mesh .vertices) (s .vertices) ++ take (3 * o .mesh .vertices) (o .vertices) in
       let ft = take (3 * s .mesh .triangles) (s .triangles) ++ take (3 * o .mesh .triangles) (map up (o .triangles)) in
       stored-is (append (meshOf s) (meshOf o)) s vn tn fv ft appended-vertices appended-triangles floats-append numbers-append
-      ∙ (λ j. state (counts vn tn) (fv ++ drop (three-sum (s .mesh .vertices) (o .mesh .vertices) j) (s .vertices))
+      ∙ (λ j. state (recordOf vn tn) (fv ++ drop (three-sum (s .mesh .vertices) (o .mesh .vertices) j) (s .vertices))
       (ft ++ drop (three-sum (s .mesh .triangles) (o .mesh .triangles) j) (s .triangles)))

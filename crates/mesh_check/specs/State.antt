@@ -14,6 +14,10 @@ use Rattle.refusal.specs.declared.Refusal.{Refusal}
 use Rattle.refusal.specs.declared.Refusal.the-variants.{Accepted, NotFinite, BadMesh}
 use Rattle.mesh_check.specs.declared.TriMesh.{TriMesh}
 
+-- the record of a mesh of so many vertices and triangles
+abbrev pub recordOf : ℕ → ℕ → TriMesh
+recordOf vertices triangles = record { vertices = vertices; triangles = triangles }
+
 -- the record and the slices as a call finds or leaves them
 pub record State : Type 0 where
   pub mesh : TriMesh
@@ -31,7 +35,7 @@ meshOf s = record { vertices = points (take (3 * s .mesh .vertices) (s .vertices
 -- a mesh laid at the start of both slices: its counts, and what stands beyond them as it was
 unfoldable pub stored : Mesh → State → State
 stored m s = record {
-  mesh = record { vertices = length (m .vertices); triangles = length (m .triangles) };
+  mesh = recordOf (length (m .vertices)) (length (m .triangles));
   vertices = flatV (m .vertices) ++ drop (3 * length (m .vertices)) (s .vertices);
   triangles = flat (m .triangles) ++ drop (3 * length (m .triangles)) (s .triangles);
 }

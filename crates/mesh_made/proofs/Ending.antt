@@ -18,10 +18,10 @@ use Rattle.mesh_spec.specs.Mesh.{Mesh}
 use Rattle.mesh_spec.specs.Slices.{flatV}
 use Rattle.mesh_spec.specs.SliceLaws.{take-flat, take-flatV, length-flatV}
 use Rattle.mesh_check.specs.declared.TriMesh.{TriMesh}
-use Rattle.mesh_check.specs.State.{State, state, stored}
+use Rattle.mesh_check.specs.State.{recordOf, State, state, stored}
 use Rattle.mesh_check.proofs.Lying.{lies}
 use Rattle.mesh_made.specs.declared.Made.{Made}
-use Rattle.mesh_made.specs.Made.{Lent, lent, recordOf, refusedWith, acceptedWith, Ending, refusedAs, acceptedAs, madeAs, GivesMade}
+use Rattle.mesh_made.specs.Made.{Lent, lent, refusedWith, acceptedWith, Ending, refusedAs, acceptedAs, madeAs, GivesMade}
 use Rattle.mesh_made.specs.Steps.{Makes, Keeps, Ends}
 
 -- slices that kept their lengths

@@ -13,13 +13,13 @@ use Rattle.slice_law.specs.Bools.{or-true}
 use Rattle.slice.specs.Every.{countedPlaces}
 use Rattle.mesh_spec.specs.Mesh.{Mesh, fromParts}
 use Rattle.mesh_spec.specs.Parts.{Soup, partsFinite}
-use Rattle.mesh_check.specs.State.{state, tooFewPlaces}
+use Rattle.mesh_check.specs.State.{recordOf, state, tooFewPlaces}
 use Rattle.mesh_check.proofs.Lying.{lies}
 use Rattle.weld.specs.declared.Welder.{Welder}
 use Rattle.weld.specs.Rep.{Held, Over}
 use Rattle.weld.specs.Parts.{Fits, AllWelded}
 use Rattle.mesh_made.specs.declared.Made.{Made}
-use Rattle.mesh_made.specs.Made.{Lent, lent, recordOf, refusedWith, acceptedWith, shortWork}
+use Rattle.mesh_made.specs.Made.{Lent, lent, refusedWith, acceptedWith, shortWork}
 use Rattle.mesh_made.specs.Steps.{Makes, partsRefusal, judged}
 use Rattle.mesh_made.proofs.Ending.{makes-as, makes-refused, makes-accepted}
 

@@ -8,7 +8,8 @@ use lib.Ieee.{Float, binary64, ofBits}
 use Rattle.math.specs.declared.Vec3.{Vec3}
 use Rattle.refusal.specs.declared.Refusal.the-variants.{NoRoom}
 use Rattle.mesh_spec.specs.Mesh.{Mesh}
-use Rattle.mesh_made.specs.Made.{Lent, shortWork, recordOf, refusedAs, acceptedAs, madeAs}
+use Rattle.mesh_check.specs.State.{recordOf}
+use Rattle.mesh_made.specs.Made.{Lent, shortWork, refusedAs, acceptedAs, madeAs}
 
 -- slices of so many floats and numbers
 abbrev of : ℕ → ℕ → ℕ → Lent

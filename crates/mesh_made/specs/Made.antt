@@ -14,7 +14,7 @@ use Rattle.mesh_balance_spec.specs.Buffer.{flat}
 use Rattle.mesh_spec.specs.Mesh.{Mesh}
 use Rattle.mesh_spec.specs.Slices.{flatV}
 use Rattle.mesh_check.specs.declared.TriMesh.{TriMesh}
-use Rattle.mesh_check.specs.State.{State, state}
+use Rattle.mesh_check.specs.State.{recordOf, State, state}
 use Rattle.mesh_made.specs.declared.Made.{Made}
 
 -- the lengths of the lent slices: floats for vertices, numbers for triangles, numbers of work
@@ -29,10 +29,6 @@ lent vs ts ws = record { vertices = length vs; triangles = length ts; work = len
 -- 6: a work slice of so many numbers has fewer than two for each whole place of a vertex slice of so many floats
 unfoldable pub shortWork : ℕ → ℕ → Bool
 shortWork vertices work = ltb work (2 * (vertices / 3))
-
--- the record of a mesh of so many vertices and triangles
-abbrev pub recordOf : ℕ → ℕ → TriMesh
-recordOf vertices triangles = record { vertices = vertices; triangles = triangles }
 
 -- the answer of a refused call: the empty record; and of an accepted one
 abbrev pub refusedWith : Refusal → Made

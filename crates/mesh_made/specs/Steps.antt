@@ -11,10 +11,10 @@ use Rattle.slice.specs.Cleared.{clearedFrom}
 use Rattle.mesh_spec.specs.Mesh.{Mesh, fromParts}
 use Rattle.mesh_spec.specs.Parts.{Soup, partsFinite}
 use Rattle.mesh_check.specs.declared.TriMesh.{TriMesh}
-use Rattle.mesh_check.specs.State.{state, stored, tooFewPlaces}
+use Rattle.mesh_check.specs.State.{recordOf, state, stored, tooFewPlaces}
 use Rattle.weld.specs.declared.Welder.{Welder}
 use Rattle.mesh_made.specs.declared.Made.{Made}
-use Rattle.mesh_made.specs.Made.{Lent, recordOf, refusedWith, acceptedWith}
+use Rattle.mesh_made.specs.Made.{Lent, refusedWith, acceptedWith}
 
 -- what a call has made before its end: the refusal q with the empty record; or no refusal, and the mesh m lies at the start of the slices
 pub record Makes (q : Refusal) (m : Mesh) (r : Made) (vs : List Float) (ts : List ℕ) : Type 0 where

@@ -2,7 +2,7 @@
 ghost use mathlib.Core.Path.{_≡_};
 ghost use Prim.Native.Nat.{_*_, _≤_};
 ghost use lib.ListN.{length};
-ghost use Rattle.mesh_made.specs.Made.{recordOf, refusedWith, acceptedWith, shortWork};
+ghost use Rattle.mesh_made.specs.Made.{refusedWith, acceptedWith, shortWork};
 ghost use Rattle.mesh_made.specs.Steps.{judged, Keeps, Ends};
 use mesh_check::TriMesh;
 use refusal::Refusal;
@@ -14,23 +14,13 @@ pub struct Made {
     pub mesh: TriMesh,
 }
 
-// The record of a mesh of so many vertices and triangles.
-fn record_of(vertices: usize, triangles: usize) -> TriMesh
-    ensures { λ r. ⌜ r ≡ recordOf vertices triangles ⌝ }
-{
-    TriMesh {
-        vertices,
-        triangles,
-    }
-}
-
 // A refused call.
 pub fn refused(refusal: Refusal) -> Made
     ensures { λ r. ⌜ r ≡ refusedWith refusal ⌝ }
 {
     Made {
         refusal,
-        mesh: record_of(0, 0),
+        mesh: mesh_check::record_of(0, 0),
     }
 }
 
@@ -63,7 +53,7 @@ pub fn judge(w: Welder) -> Made
     if !room {
         return refused(Refusal::NoRoom);
     }
-    accepted(record_of(w.count, w.faces))
+    accepted(mesh_check::record_of(w.count, w.faces))
 }
 
 // The counted places stay. Every later element is zero, those of a last place that is not whole too, and so is the work slice.

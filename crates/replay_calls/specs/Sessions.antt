@@ -3,13 +3,14 @@ use mathlib.Core.Bool.{Bool, true}
 use Prim.Native.Nat.{ℕ}
 use Rattle.replay_format.specs.declared.head.Head.{Head}
 use Rattle.mesh_check.specs.declared.TriMesh.{TriMesh}
+use Rattle.mesh_check.specs.State.{recordOf}
 use Rattle.replay_calls.specs.declared.session.Answer.{Answer}
 use Rattle.replay_calls.specs.declared.session.Held.{Held}
 use Rattle.replay_calls.specs.declared.session.Session.{Session}
 
 -- a mesh with no vertices, in slices of no places
 abbrev pub noMesh : Held
-noMesh = record { mesh = record { vertices = 0; triangles = 0 }; floats = 0; numbers = 0 }
+noMesh = record { mesh = recordOf 0 0; floats = 0; numbers = 0 }
 
 -- two empty meshes, before the first call
 abbrev pub beginning : Session
@@ -29,4 +30,4 @@ afterCall s r floats numbers = record { a = record { mesh = r .mesh; floats = fl
 
 -- the counts that a case claims for the mesh that it loads
 abbrev pub claimed : Head → TriMesh
-claimed h = record { vertices = h .«vertex_count»; triangles = h .«triangle_count» }
+claimed h = recordOf (h .«vertex_count») (h .«triangle_count»)

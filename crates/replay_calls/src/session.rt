@@ -30,10 +30,7 @@ fn empty() -> Held
     ensures { λ r. ⌜ r ≡ noMesh ⌝ }
 {
     Held {
-        mesh: TriMesh {
-            vertices: 0,
-            triangles: 0,
-        },
+        mesh: mesh_check::record_of(0, 0),
         floats: 0,
         numbers: 0,
     }
@@ -86,8 +83,5 @@ pub fn after(s: Session, r: Answer, floats: usize, numbers: usize) -> Session
 pub fn claimed_mesh(h: Head) -> TriMesh
     ensures { λ r. ⌜ r ≡ claimed h ⌝ }
 {
-    TriMesh {
-        vertices: wide(h.vertex_count),
-        triangles: wide(h.triangle_count),
-    }
+    mesh_check::record_of(wide(h.vertex_count), wide(h.triangle_count))
 }

@@ -7,7 +7,6 @@ use Prim.Native.Nat.{ℕ, _+_, _*_}
 use lib.Seq.{paste}
 use borrow.Author.Tests.{not-true, not-false}
 use Rattle.mesh_spec.specs.Mesh.{append}
-use Rattle.mesh_check.specs.declared.TriMesh.{TriMesh}
 use Rattle.refusal.specs.Accepted.{isAccepted}
 use Rattle.mesh_check.specs.State.{state, meshOf, stored}
 use Rattle.mesh_refusals.specs.Append.{appendRefusal}
@@ -112,8 +111,8 @@ copy-up-requires c κs =
     let w = appends s o (r .result) (r .ensures) h in
     (omega (arith, w .triangles), omega (arith, w .fine .triangles), λ i q. w .fits i (omega arith))
 
-add-t22 : tie.Need-add-t22
-add-t22 c =
+add-record-of : tie.Need-add-record-of
+add-record-of c =
     let a = c .before .before .before .before .before .before .before .before .before .before .before .before .before .before .before .before .before .args in
     let s = state (a .mesh) (now (a .vertices)) (now (a .triangles)) in
     let o = state (a .other) (now (a .other-vertices)) (now (a .other-triangles)) in
@@ -123,8 +122,8 @@ add-t22 c =
     let w = appends s o (r .result) (r .ensures) h in
     omega (arith, w .limit, w .limitT)
 
-add-t21 : tie.Need-add-t21
-add-t21 c =
+add-record-of-2 : tie.Need-add-record-of-2
+add-record-of-2 c =
     let a = c .before .before .before .before .before .before .before .before .before .before .before .before .before .before .before .before .before .args in
     let s = state (a .mesh) (now (a .vertices)) (now (a .triangles)) in
     let o = state (a .other) (now (a .other-vertices)) (now (a .other-triangles)) in
@@ -133,6 +132,9 @@ add-t21 c =
     ∙ not-false _ (c .before .before .before .before .before .before .before .before .if1 .left) in
     let w = appends s o (r .result) (r .ensures) h in
     omega (arith, w .limit, w .limitT)
+
+record-of-requires : tie.Need-record-of-requires
+record-of-requires c κs = search needs
 
 same-length-3 : tie.Need-same-length-3
 same-length-3 c = search needs
@@ -143,20 +145,20 @@ same-length-4 c = search needs
 returns-2 : tie.Need-returns-2
 unfolding appendOf
 returns-2 c =
-    let a = c .before .before .before .before .before .before .before .before .before .before .before .before .before .before .before .before .before .args in
+    let a = c .before .before .before .before .before .before .before .before .before .before .before .before .before .before .before .before .before .before .args in
     let s = state (a .mesh) (now (a .vertices)) (now (a .triangles)) in
     let o = state (a .other) (now (a .other-vertices)) (now (a .other-triangles)) in
-    let r = c .before .before .before .before .before .before .before .before .before .before .append-refusal in
-    let h : isAccepted (r .result) ≡ true = sym (c .before .before .before .before .before .before .before .before .before .is-accepted .ensures)
-    ∙ not-false _ (c .before .before .before .before .before .before .before .before .if1 .left) in
+    let r = c .before .before .before .before .before .before .before .before .before .before .before .append-refusal in
+    let h : isAccepted (r .result) ≡ true = sym (c .before .before .before .before .before .before .before .before .before .before .is-accepted .ensures)
+    ∙ not-false _ (c .before .before .before .before .before .before .before .before .before .if1 .left) in
     let w = appends s o (r .result) (r .ensures) h in
     let vs = paste (s .vertices) (3 * s .mesh .vertices) (o .vertices) (3 * o .mesh .vertices) in
     let ts = paste (s .triangles) (3 * s .mesh .triangles) (map (λ (i : ℕ). i + s .mesh .vertices) (o .triangles)) (3 * o .mesh .triangles) in
-    let m : TriMesh = record { vertices = s .mesh .vertices + o .mesh .vertices; triangles = s .mesh .triangles + o .mesh .triangles } in
-    let v = c .before .before .before .before .before .before .copy in
-    let t = c .before .before .copy-up in
-    gives-done (appendRefusal s o) s (stored (append (meshOf s) (meshOf o)) s) (r .result) (r .ensures) (state m vs ts) (v .last .0) (t .last .0) h
-    (stored-append s o (w .ok) (w .fine)) (v .ensures) (t .ensures)
+    let m = c .record-of in
+    let v = c .before .before .before .before .before .before .before .copy in
+    let t = c .before .before .before .copy-up in
+    gives-done (appendRefusal s o) s (stored (append (meshOf s) (meshOf o)) s) (r .result) (r .ensures) (state (m .result) vs ts) (v .last .0) (t .last .0) h
+    (stored-append s o (w .ok) (w .fine) ∙ (λ j. state (sym (m .ensures) j) vs ts)) (v .ensures) (t .ensures)
 
 pub append-spec : {M : Type 1} → statement M
 append-spec =
@@ -174,8 +176,9 @@ append-spec =
     mul-copy-up-2
     cast-copy-up
     copy-up-requires
-    add-t22
-    add-t21
+    add-record-of
+    add-record-of-2
+    record-of-requires
     same-length-3
     same-length-4
     returns-2)

@@ -1,0 +1,12 @@
+-- `replay_calls::session::empty` meets its contract. Assumes nothing.
+use Rattle.replay_calls.proofs.session.empty.Statement.{statement}
+use Rattle.replay_calls.proofs.session.empty.Tie as tie
+
+record-of-requires : tie.Need-record-of-requires
+record-of-requires c κs = tt
+
+returns : tie.Need-returns
+returns c = λ i. record { mesh = c .record-of .ensures i; floats = 0; numbers = 0 }
+
+pub empty-spec : {M : Type 1} → statement M
+empty-spec = tie.close (tie.spec record-of-requires returns)
