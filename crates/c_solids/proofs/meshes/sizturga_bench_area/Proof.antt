@@ -5,11 +5,14 @@ use Rattle.mesh_measures.specs.declared.Measured.{Measured}
 use Rattle.c_solids.proofs.meshes.sizturga_bench_area.Statement.{statement}
 use Rattle.c_solids.proofs.meshes.sizturga_bench_area.Tie as tie
 
+record-of-requires : tie.Need-record-of-requires
+record-of-requires c κs = tt
+
 area-requires : tie.Need-area-requires
 area-requires c κs = search needs
 
 returns : tie.Need-returns
-returns c = ap (λ (m : Measured). m .bits) (c .area .ensures .answer)
+returns c = rw (← c .before .record-of .ensures) (ap (λ (m : Measured). m .bits) (c .area .ensures .answer))
 
 pub sizturga-bench-area-spec : {M : Type 1} → statement M
-sizturga-bench-area-spec = tie.close (tie.spec area-requires returns)
+sizturga-bench-area-spec = tie.close (tie.spec record-of-requires area-requires returns)

@@ -4,6 +4,9 @@ use Rattle.c_solids.proofs.Told.{leaves}
 use Rattle.c_solids.proofs.meshes.sizturga_bench_flip.Statement.{statement}
 use Rattle.c_solids.proofs.meshes.sizturga_bench_flip.Tie as tie
 
+record-of-requires : tie.Need-record-of-requires
+record-of-requires c κs = tt
+
 flip-requires : tie.Need-flip-requires
 flip-requires c κs = search needs
 
@@ -14,7 +17,7 @@ same-length : tie.Need-same-length
 same-length c = search needs
 
 returns : tie.Need-returns
-returns c = leaves (c .before .before .before .before .flip .ensures) (c .number .ensures)
+returns c = rw (← c .before .before .before .before .before .before .record-of .ensures) (leaves (c .before .before .before .before .flip .ensures) (c .number .ensures))
 
 pub sizturga-bench-flip-spec : {M : Type 1} → statement M
-sizturga-bench-flip-spec = tie.close (tie.spec flip-requires number-requires same-length returns)
+sizturga-bench-flip-spec = tie.close (tie.spec record-of-requires flip-requires number-requires same-length returns)

@@ -5,11 +5,14 @@ use Rattle.mesh_measures.specs.declared.Measured.{Measured}
 use Rattle.c_solids.proofs.meshes.sizturga_bench_signed_volume.Statement.{statement}
 use Rattle.c_solids.proofs.meshes.sizturga_bench_signed_volume.Tie as tie
 
+record-of-requires : tie.Need-record-of-requires
+record-of-requires c κs = tt
+
 signed-volume-requires : tie.Need-signed-volume-requires
 signed-volume-requires c κs = search needs
 
 returns : tie.Need-returns
-returns c = ap (λ (m : Measured). m .bits) (c .signed-volume .ensures .answer)
+returns c = rw (← c .before .record-of .ensures) (ap (λ (m : Measured). m .bits) (c .signed-volume .ensures .answer))
 
 pub sizturga-bench-signed-volume-spec : {M : Type 1} → statement M
-sizturga-bench-signed-volume-spec = tie.close (tie.spec signed-volume-requires returns)
+sizturga-bench-signed-volume-spec = tie.close (tie.spec record-of-requires signed-volume-requires returns)
