@@ -1,10 +1,10 @@
 -- What the contracts of `c_solids` cite beside the outcomes of the calls: the answer as plain numbers. Definitions only.
 use mathlib.Core.Path.{_≡_}
 use mathlib.Core.Bool.{false}
-use mathlib.Core.List.{List, [], _∷_}
+use mathlib.Core.List.{List}
 use Prim.Native.Nat.{ℕ}
 use lib.ListN.{replicate, set}
-use lib.Ieee.{Float, binary64, ofBits}
+use lib.Ieee.{Float}
 use Rattle.math.specs.declared.Vec3.{Vec3}
 use Rattle.transform.specs.declared.TransformOp.{TransformOp}
 use Rattle.transform.specs.declared.TransformOp.the-variants.{Translate, RotateOrigin}
@@ -13,7 +13,6 @@ use Rattle.refusal.specs.Number.{numberOf}
 use Rattle.shape.specs.declared.Shape.{Shape}
 use Rattle.shape.specs.declared.OwnSystem.the-variants.{Inherited}
 use Rattle.shape.specs.declared.CoordSystem.{CoordSystem}
-use Rattle.shape.specs.declared.CoordSystem.the-variants.{Cartesian}
 use Rattle.mesh_check.specs.State.{recordOf}
 use Rattle.mesh.specs.Outcome.{EditOutcome}
 use Rattle.mesh_made.specs.Made.{Lent, Ending}
@@ -23,17 +22,9 @@ use Rattle.tessellate_spec.specs.Outcome.{job, tessellateOf}
 abbrev pub at : Float → Float → Float → Vec3
 at x y z = record { x = x; y = y; z = z }
 
--- the list beside a shape that has none
-abbrev pub unread : List Float
-unread = replicate 1 (ofBits binary64 0)
-
 -- a shape in a coordinate system, without operations
 abbrev pub solidIn : CoordSystem → Shape → List Float → ℕ → ℕ → Lent → Ending
 solidIn system shape list segments rings = tessellateOf (job shape list Inherited system (record { segments = segments; «sphere_rings» = rings }) false noOps 0)
-
--- the same in the Cartesian system
-abbrev pub solidOf : Shape → List Float → ℕ → ℕ → Lent → Ending
-solidOf = solidIn Cartesian
 
 -- 16 operations, of which two count: a rotation about an axis through the origin, then a translation
 abbrev pub turnThenMove : Vec3 → Float → Vec3 → List TransformOp

@@ -5,7 +5,7 @@ use Prim.Native.Nat.{ℕ}
 use borrow.Author.Tests.{ne-eqb}
 use Rattle.transform.specs.declared.TransformOp.{TransformOp}
 use Rattle.replay_format.specs.Layout.{opOfKind, matrixAt}
-use Rattle.replay_format.proofs.Arms.{of-kind, Not}
+use Rattle.slice_law.specs.Arms.{of-kind, Not}
 
 pub of-op-kind : (b : List ℕ) (n j : ℕ) {k : ℕ} {r : TransformOp} → k ≡ j → r ≡ opOfKind j b n → r ≡ opOfKind k b n
 of-op-kind b n = of-kind (λ (i : ℕ). opOfKind i b n)

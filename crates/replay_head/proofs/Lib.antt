@@ -1,3 +1,2 @@
 -- Laws that the proofs of `replay_head` use.
-mod ByKind
 mod Reading

@@ -47,32 +47,26 @@ pub enum Solid {
     Wire(f64, Vec<f64>),
 }
 
-/// The rest of a solid's arguments, from `segments` on.
-macro_rules! solids {
-    ($($name:ident($($arg:ident: $type:ty),*);)*) => {
-        unsafe extern "C" {
-            $(fn $name($($arg: $type,)* segments: usize, rings: usize, vertices: *mut f64, vertices_len: usize,
-                triangles: *mut u32, triangles_len: usize, work: *mut u32, work_len: usize, vertex_count: *mut usize,
-                triangle_count: *mut usize) -> u32;)*
-        }
-    };
-}
-
-solids! {
-    sizturga_bench_box(x: f64, y: f64, z: f64, stop_x: f64, stop_y: f64, stop_z: f64);
-    sizturga_bench_sector(x: f64, y: f64, z: f64, stop_x: f64, stop_y: f64, stop_z: f64);
-    sizturga_bench_multi_box(list: *const f64, list_len: usize);
-    sizturga_bench_sphere(x: f64, y: f64, z: f64, radius: f64);
-    sizturga_bench_spherical_shell(x: f64, y: f64, z: f64, radius: f64, width: f64);
-    sizturga_bench_cylinder(x: f64, y: f64, z: f64, stop_x: f64, stop_y: f64, stop_z: f64, radius: f64);
-    sizturga_bench_cylindrical_shell(x: f64, y: f64, z: f64, stop_x: f64, stop_y: f64, stop_z: f64, radius: f64, width: f64);
-    sizturga_bench_polygon(norm_dir: u8, elevation: f64, list: *const f64, list_len: usize);
-    sizturga_bench_extruded(norm_dir: u8, elevation: f64, depth: f64, list: *const f64, list_len: usize);
-    sizturga_bench_rotated(norm_dir: u8, elevation: f64, rot_axis_dir: u8, start_angle: f64, stop_angle: f64, list: *const f64, list_len: usize);
-    sizturga_bench_wire(radius: f64, list: *const f64, list_len: usize);
-}
-
 unsafe extern "C" {
+    fn sizturga_bench_solid(
+        kind: u8,
+        norm_dir: u8,
+        rot_axis_dir: u8,
+        numbers: *const [f64; 10],
+        list: *const f64,
+        list_len: usize,
+        system: u8,
+        segments: usize,
+        rings: usize,
+        v: *mut f64,
+        v_len: usize,
+        t: *mut u32,
+        t_len: usize,
+        work: *mut u32,
+        work_len: usize,
+        n: *mut usize,
+        k: *mut usize,
+    ) -> u32;
     fn sizturga_bench_area(n: usize, k: usize, v: *const f64, v_len: usize, t: *const u32, t_len: usize) -> u64;
     fn sizturga_bench_signed_volume(n: usize, k: usize, v: *const f64, v_len: usize, t: *const u32, t_len: usize) -> u64;
     fn sizturga_bench_append(
@@ -119,31 +113,74 @@ unsafe extern "C" {
     ) -> u32;
 }
 
+/// A solid as `sizturga_bench_solid` takes it: kind, directions, numbers in the Rust's field order, list, system.
+struct Fields<'a> {
+    kind: u8,
+    norm_dir: u8,
+    rot_axis_dir: u8,
+    numbers: [f64; 10],
+    list: &'a [f64],
+    system: u8,
+}
+
+/// The numbers of two points, and two more.
+fn numbers(p: &[f64; 3], q: &[f64; 3], r: f64, width: f64) -> [f64; 10] {
+    [p[0], p[1], p[2], q[0], q[1], q[2], r, width, 0.0, 0.0]
+}
+
+/// The numbers of a point or an outline.
+fn few(n: &[f64]) -> [f64; 10] {
+    let mut all = [0.0; 10];
+    all[..n.len()].copy_from_slice(n);
+    all
+}
+
+impl Solid {
+    fn fields(&self) -> Fields<'_> {
+        let of = |kind, numbers| Fields { kind, norm_dir: 0, rot_axis_dir: 0, numbers, list: &[], system: 0 };
+        match self {
+            Solid::Box(p, q) => of(0, numbers(p, q, 0.0, 0.0)),
+            Solid::Sector(p, q) => Fields { system: 1, ..of(0, numbers(p, q, 0.0, 0.0)) },
+            Solid::MultiBox(list) => Fields { list, ..of(1, [0.0; 10]) },
+            Solid::Sphere(p, r) => of(2, few(&[p[0], p[1], p[2], *r])),
+            Solid::SphericalShell(p, r, w) => of(3, few(&[p[0], p[1], p[2], *r, *w])),
+            Solid::Cylinder(p, q, r) => of(4, numbers(p, q, *r, 0.0)),
+            Solid::CylindricalShell(p, q, r, w) => of(5, numbers(p, q, *r, *w)),
+            Solid::Polygon(d, e, list) => Fields { norm_dir: *d, list, ..of(6, few(&[*e])) },
+            Solid::Extruded(d, e, l, list) => Fields { norm_dir: *d, list, ..of(7, few(&[*e, *l])) },
+            Solid::Rotated(d, e, a, p, q, list) => {
+                Fields { norm_dir: *d, rot_axis_dir: *a, list, ..of(8, few(&[*e, *p, *q])) }
+            }
+            Solid::Wire(r, list) => Fields { list, ..of(9, few(&[*r])) },
+        }
+    }
+}
+
 /// Tessellates into the lent slices; returns the refusal's number.
 pub fn tessellate(solid: &Solid, segments: usize, rings: usize, m: &mut Lent) -> u32 {
-    let Lent { vertices: v, triangles: t, work: w, vertex_count: n, triangle_count: k } = m;
-    macro_rules! call {
-        ($name:ident($($arg:expr),*)) => {
-            // Each pointer and length are those of a live slice; no two of the slices overlap.
-            unsafe {
-                $name($($arg,)* segments, rings, v.as_mut_ptr(), v.len(), t.as_mut_ptr(), t.len(), w.as_mut_ptr(), w.len(), n, k)
-            }
-        };
-    }
-    match solid {
-        Solid::Box(p, q) => call!(sizturga_bench_box(p[0], p[1], p[2], q[0], q[1], q[2])),
-        Solid::Sector(p, q) => call!(sizturga_bench_sector(p[0], p[1], p[2], q[0], q[1], q[2])),
-        Solid::MultiBox(c) => call!(sizturga_bench_multi_box(c.as_ptr(), c.len())),
-        Solid::Sphere(p, r) => call!(sizturga_bench_sphere(p[0], p[1], p[2], *r)),
-        Solid::SphericalShell(p, r, w) => call!(sizturga_bench_spherical_shell(p[0], p[1], p[2], *r, *w)),
-        Solid::Cylinder(p, q, r) => call!(sizturga_bench_cylinder(p[0], p[1], p[2], q[0], q[1], q[2], *r)),
-        Solid::CylindricalShell(p, q, r, w) => {
-            call!(sizturga_bench_cylindrical_shell(p[0], p[1], p[2], q[0], q[1], q[2], *r, *w))
-        }
-        Solid::Polygon(d, e, c) => call!(sizturga_bench_polygon(*d, *e, c.as_ptr(), c.len())),
-        Solid::Extruded(d, e, l, c) => call!(sizturga_bench_extruded(*d, *e, *l, c.as_ptr(), c.len())),
-        Solid::Rotated(d, e, a, p, q, c) => call!(sizturga_bench_rotated(*d, *e, *a, *p, *q, c.as_ptr(), c.len())),
-        Solid::Wire(r, c) => call!(sizturga_bench_wire(*r, c.as_ptr(), c.len())),
+    let f = solid.fields();
+    let (v, t, w) = (&mut m.vertices, &mut m.triangles, &mut m.work);
+    // Each pointer and length are those of a live slice; no two of the slices overlap.
+    unsafe {
+        sizturga_bench_solid(
+            f.kind,
+            f.norm_dir,
+            f.rot_axis_dir,
+            &f.numbers,
+            f.list.as_ptr(),
+            f.list.len(),
+            f.system,
+            segments,
+            rings,
+            v.as_mut_ptr(),
+            v.len(),
+            t.as_mut_ptr(),
+            t.len(),
+            w.as_mut_ptr(),
+            w.len(),
+            &mut m.vertex_count,
+            &mut m.triangle_count,
+        )
     }
 }
 

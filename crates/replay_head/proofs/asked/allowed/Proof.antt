@@ -5,7 +5,7 @@ use Prim.Native.Nat.{ℕ}
 use lib.Dec.{leb}
 use borrow.Author.Tests.{ne-eqb}
 use Rattle.replay_head.specs.Asked.{allowedOfCall}
-use Rattle.replay_format.proofs.Arms.{of-kind}
+use Rattle.slice_law.specs.Arms.{of-kind}
 use Rattle.replay_head.proofs.asked.allowed.Statement.{statement}
 use Rattle.replay_head.proofs.asked.allowed.Tie as tie
 

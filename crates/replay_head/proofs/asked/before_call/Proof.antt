@@ -3,7 +3,7 @@ use mathlib.Core.Path.{refl}
 use Prim.Native.Nat.{ℕ}
 use borrow.Author.Tests.{ne-eqb}
 use Rattle.replay_head.specs.Asked.{beforeCall}
-use Rattle.replay_format.proofs.Arms.{of-kind}
+use Rattle.slice_law.specs.Arms.{of-kind}
 use Rattle.replay_head.proofs.asked.before_call.Statement.{statement}
 use Rattle.replay_head.proofs.asked.before_call.Tie as tie
 

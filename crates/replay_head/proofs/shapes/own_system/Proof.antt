@@ -2,7 +2,7 @@
 use mathlib.Core.Path.{refl}
 use borrow.Author.Tests.{ne-eqb}
 use Rattle.replay_head.specs.Shapes.{ownSystemOf}
-use Rattle.replay_format.proofs.Arms.{of-kind}
+use Rattle.slice_law.specs.Arms.{of-kind}
 use Rattle.replay_head.proofs.shapes.own_system.Statement.{statement}
 use Rattle.replay_head.proofs.shapes.own_system.Tie as tie
 

@@ -1,58 +1,54 @@
 -- `replay_head::shapes::shape_of` meets its contract. Assumes nothing.
 use borrow.Author.Needs.{needs}
-use mathlib.Core.Path.{refl}
+use mathlib.Core.Path.{ap, _∙_}
+use mathlib.Core.List.{List}
 use denote.Ref.{now}
-use Prim.Native.Nat.{ℕ}
-use Rattle.shape.specs.declared.Shape.the-variants.{Polygon, LinPoly, RotPoly, Wire}
-use Rattle.replay_head.specs.Shapes.{shapeOfKind}
-use Rattle.replay_format.proofs.Arms.{of-kind}
-use Rattle.replay_head.proofs.ByKind.{other-shape}
+use Prim.Native.Nat.{ℕ, _-_}
+use native.Mathlib.Omega.{arith}
+use lib.ListN.{length, drop, length-drop}
+use lib.Seq.{take-all}
+use lib.Ieee.{Float}
+use Rattle.slice_bytes.specs.Lists.{floatsOf}
+use Rattle.shape_fields.specs.Fields as Fields
+use Rattle.replay_head.specs.Shapes.{shapeOf}
 use Rattle.replay_head.proofs.shapes.shape_of.Statement.{statement}
 use Rattle.replay_head.proofs.shapes.shape_of.Tie as tie
 
-vec-at-requires : tie.Need-vec-at-requires
-vec-at-requires c κs = search needs
+sub-get-floats : tie.Need-sub-get-floats
+sub-get-floats c = search needs
 
-solid-requires : tie.Need-solid-requires
-solid-requires c κs = search needs
+part-get-floats-start : tie.Need-part-get-floats-start
+part-get-floats-start c = search needs
+
+part-get-floats-end : tie.Need-part-get-floats-end
+part-get-floats-end c = search needs
+
+slice-aggregate-get-floats : tie.Need-slice-aggregate-get-floats
+slice-aggregate-get-floats c = search needs
+
+get-floats-requires : tie.Need-get-floats-requires
+get-floats-requires c κs = search needs
+
+shape-of-requires : tie.Need-shape-of-requires
+shape-of-requires c κs = search needs
 
 returns : tie.Need-returns
-unfolding shapeOfKind
+unfolding shapeOf
 returns c =
-    let s = c .before .before .before .args in
-    of-kind (λ (k : ℕ). shapeOfKind k (s .h) (now (s .head))) 1 (c .match .keys1) refl
-
-returns-2 : tie.Need-returns-2
-unfolding shapeOfKind
-returns-2 c =
-    let s = c .before .before .before .args in
-    of-kind (λ (k : ℕ). shapeOfKind k (s .h) (now (s .head))) 6 (c .match .keys2) (λ i. Polygon (s .h .«norm_dir») (c .before .vec-at .ensures i .x))
-
-returns-3 : tie.Need-returns-3
-unfolding shapeOfKind
-returns-3 c =
-    let s = c .before .before .before .args in
-    let p = c .before .vec-at .ensures in
-    of-kind (λ (k : ℕ). shapeOfKind k (s .h) (now (s .head))) 7 (c .match .keys3) (λ i. LinPoly (s .h .«norm_dir») (p i .x) (p i .y))
-
-returns-4 : tie.Need-returns-4
-unfolding shapeOfKind
-returns-4 c =
-    let s = c .before .before .before .args in
-    let p = c .before .vec-at .ensures in
-    of-kind (λ (k : ℕ). shapeOfKind k (s .h) (now (s .head))) 8 (c .match .keys4)
-    (λ i. RotPoly (s .h .«norm_dir») (p i .x) (s .h .«rot_axis_dir») (p i .y) (p i .z))
-
-returns-5 : tie.Need-returns-5
-unfolding shapeOfKind
-returns-5 c =
-    let s = c .before .before .before .args in
-    of-kind (λ (k : ℕ). shapeOfKind k (s .h) (now (s .head))) 9 (c .match .keys5) (λ i. Wire (c .before .vec-at .ensures i .x))
-
-returns-6 : tie.Need-returns-6
-returns-6 c =
-    let s = c .before .before .before .before .args in
-    other-shape (s .h) (now (s .head)) (c .before .match .rest) (c .solid .ensures)
+    let s = c .before .before .before .before .before .before .before .args in
+    let rest = drop 48 (now (s .head)) in
+    c .shape-of .ensures
+    ∙ ap (λ (n : List Float). Fields.shapeOf (s .h .shape) (s .h .«norm_dir») (s .h .«rot_axis_dir») n)
+    (c .before .before .before .get-floats .ensures ∙ ap (λ (l : List ℕ). floatsOf 10 l) (take-all (length (now (s .head)) - 48) rest (simp length-drop (omega arith))))
 
 pub shape-of-spec : {M : Type 1} → statement M
-shape-of-spec = tie.close (tie.spec vec-at-requires solid-requires returns returns-2 returns-3 returns-4 returns-5 returns-6)
+shape-of-spec =
+    tie.close
+    (tie.spec
+    sub-get-floats
+    part-get-floats-start
+    part-get-floats-end
+    slice-aggregate-get-floats
+    get-floats-requires
+    shape-of-requires
+    returns)

@@ -1,0 +1,2 @@
+-- Proofs that several functions of `shape_fields` share.
+mod Others

@@ -1,0 +1,2 @@
+-- What the contracts of `shape_fields` cite.
+pub mod Fields
