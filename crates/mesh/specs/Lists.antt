@@ -13,7 +13,7 @@ use Rattle.transform.specs.Ops.{folded}
 use Rattle.mesh_spec.specs.Mesh.{Mesh, append, flip}
 use Rattle.mesh_spec.specs.Edits.{transform}
 use Rattle.mesh_balance_spec.specs.Count.{EdgesBalance}
-use Rattle.mesh_spec.specs.Closed.{NoneTwice, AllThere, Closed}
+use Rattle.mesh_spec.specs.Closed.{NoneTwice, AllThere, Closed, Proper}
 use Rattle.mesh_spec.specs.EdgeLaws.{append-edges, flip-edges, transform-edges}
 use Rattle.mesh_spec.specs.ClosedLaws.{append-closed, flip-closed, transform-closed}
 use Rattle.mesh_spec.specs.ProperLaws.{append-none-twice, flip-none-twice, transform-none-twice, append-all-there, flip-all-there, transform-all-there}
@@ -67,6 +67,8 @@ pub record KeptByLists : Type 0 where
   pub edgesBalance : (s : State) (calls : List Call) → Kept (λ m. EdgesBalance (m .triangles)) s calls
   pub noneTwice : (s : State) (calls : List Call) → Kept NoneTwice s calls
   pub allThere : (s : State) (calls : List Call) → Kept AllThere s calls
+  -- so do the last two together, which sheets have as well
+  pub proper : (s : State) (calls : List Call) → Kept Proper s calls
 
 -- ---- the proof
 -- the three edits of a mesh keep a property
@@ -118,11 +120,32 @@ by-list : (P : Mesh → Type 0) → KeptByEdits P → (s : State) (calls : List 
 by-list P k s [] start h = start
 by-list P k s (c ∷ cs) start h = by-list P k (outcome c s .state) cs (by-call P k s start c (h .0)) (h .1)
 
+-- a list that brings a property brings what follows from it
+module _ (P Q : Mesh → Type 0) (follows : (m : Mesh) → P m → Q m) where
+  brings : (c : Call) (s : State) → Brings P c s → Brings Q c s
+  brings (Append o) s h = λ e. follows (meshOf o) (h e)
+  brings Flip s h = tt
+  brings (Transform ops count degrees) s h = tt
+
+  all-bring : (calls : List Call) (s : State) → AllBring P calls s → AllBring Q calls s
+  all-bring [] s h = tt
+  all-bring (c ∷ cs) s h = (brings c s (h .0), all-bring cs (outcome c s .state) (h .1))
+
+none-twice-kept : (s : State) (calls : List Call) → Kept NoneTwice s calls
+none-twice-kept = by-list NoneTwice (record { appended = append-none-twice; flipped = flip-none-twice; transformed = transform-none-twice })
+
+all-there-kept : (s : State) (calls : List Call) → Kept AllThere s calls
+all-there-kept = by-list AllThere (record { appended = append-all-there; flipped = flip-all-there; transformed = transform-all-there })
+
 -- demand 3, the lists
 pub kept-by-lists : KeptByLists
 kept-by-lists = record {
   closed = by-list Closed (record { appended = append-closed; flipped = flip-closed; transformed = transform-closed });
   edgesBalance = by-list (λ m. EdgesBalance (m .triangles)) (record { appended = append-edges; flipped = flip-edges; transformed = transform-edges });
-  noneTwice = by-list NoneTwice (record { appended = append-none-twice; flipped = flip-none-twice; transformed = transform-none-twice });
-  allThere = by-list AllThere (record { appended = append-all-there; flipped = flip-all-there; transformed = transform-all-there });
+  noneTwice = none-twice-kept;
+  allThere = all-there-kept;
+  proper = λ s calls p b. record {
+    noneTwice = none-twice-kept s calls (p .noneTwice) (all-bring Proper NoneTwice (λ m q. q .noneTwice) calls s b);
+    allThere = all-there-kept s calls (p .allThere) (all-bring Proper AllThere (λ m q. q .allThere) calls s b);
+  };
 }

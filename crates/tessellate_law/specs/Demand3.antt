@@ -12,7 +12,7 @@ use Rattle.transform.specs.Ops.{folded}
 use Rattle.mesh_spec.specs.Mesh.{Mesh, noMesh, append, flip, fromSoup, appendParts, fromParts}
 use Rattle.mesh_spec.specs.Edits.{transform}
 use Rattle.mesh_spec.specs.Measures.{signedVolume}
-use Rattle.mesh_spec.specs.Closed.{allOf, Closed, NoneTwice, AllThere}
+use Rattle.mesh_spec.specs.Closed.{allOf, Closed, Proper, NoneTwice, AllThere}
 use Rattle.mesh_spec.specs.ClosedLaws.{no-mesh-closed, append-closed, flip-closed, transform-closed}
 use Rattle.mesh_spec.specs.ProperLaws.{append-none-twice, flip-none-twice, transform-none-twice, append-all-there, flip-all-there, transform-all-there}
 use Rattle.mesh_spec.specs.Welded.{fromSoup-proper}
@@ -44,6 +44,9 @@ pub record Demand3 : Type 0 where
   -- so an accepted solid of the list is closed after any list of calls in which each mesh appended is closed
   pub closedAfter : (j : Job) (n : Lent) → Accepts j n → FitsSolid (j .shape) (j .list) → Solid (j .shape) (j .list)
       → (calls : List Call) → AllBring Closed calls (left j n) → Closed (meshOf (after (left j n) calls))
+  -- and every accepted shape is proper after any list of calls in which each mesh appended is proper
+  pub properAfter : (j : Job) (n : Lent) → Accepts j n
+      → (calls : List Call) → AllBring Proper calls (left j n) → Proper (meshOf (after (left j n) calls))
 
 -- ---- what the mesh of a job keeps
 
@@ -129,4 +132,5 @@ demand3 = record {
   allThere = is-all-there;
   lists = kept-by-lists;
   closedAfter = λ j n h f s calls b. kept-by-lists .closed (left j n) calls (is-closed j n h f s) b;
+  properAfter = λ j n h calls b. kept-by-lists .proper (left j n) calls (record { noneTwice = is-none-twice j n h; allThere = is-all-there j n h }) b;
 }

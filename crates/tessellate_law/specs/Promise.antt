@@ -9,6 +9,7 @@ use Rattle.mesh_check.specs.State.{State, state, meshOf}
 use Rattle.mesh.specs.Lists.{Call, after, AllBring}
 use Rattle.mesh_made.specs.declared.Made.{Made}
 use Rattle.mesh_made.specs.Made.{Lent, GivesMade}
+use Rattle.mesh_made.specs.MadeLaws.{left-as}
 use Rattle.tessellate_spec.specs.Outcome.{Job, tessellateOf}
 use Rattle.tessellate_law.specs.Words.{Accepts, left, FitsSolid, Solid}
 use Rattle.tessellate_law.specs.Demand3.{demand3}
@@ -24,6 +25,9 @@ pub record Promise (j : Job) (n : Lent) (r : Made) (vs : List Float) (ts ws : Li
   -- and the solid is closed after any list of calls in which each mesh appended is closed
   pub closedAfter : r .refusal ≡ Accepted → Solid (j .shape) (j .list)
       → (calls : List Call) → AllBring Closed calls (state (r .mesh) vs ts) → Closed (meshOf (after (state (r .mesh) vs ts) calls))
+  -- and whichever shape it is, the mesh is proper after any list of calls in which each mesh appended is proper
+  pub properAfter : r .refusal ≡ Accepted
+      → (calls : List Call) → AllBring Proper calls (state (r .mesh) vs ts) → Proper (meshOf (after (state (r .mesh) vs ts) calls))
 
 -- the outcome has it, of the floats of a program
 pub promised : (j : Job) (n : Lent) (r : Made) (vs : List Float) (ts ws : List ℕ)
@@ -37,10 +41,12 @@ promised j n r vs ts ws f g = record {
   };
   closedAfter = λ a s calls.
       subst (λ (x : State). AllBring Closed calls x → Closed (meshOf (after x calls))) left-is (demand3 .closedAfter j n (accepts a) f s calls);
+  properAfter = λ a calls.
+      subst (λ (x : State). AllBring Proper calls x → Proper (meshOf (after x calls))) left-is (demand3 .properAfter j n (accepts a) calls);
 }
   where
     accepts : r .refusal ≡ Accepted → Accepts j n
     accepts a = sym (g .refusal) ∙ a
 
     left-is : left j n ≡ state (r .mesh) vs ts
-    left-is = λ i. state (sym (g .mesh) i) (sym (g .vertices) i) (sym (g .triangles) i)
+    left-is = left-as g
