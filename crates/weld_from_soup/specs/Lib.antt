@@ -1,2 +1,3 @@
 -- What the contract of `weld_from_soup` cites.
 pub mod Soups
+pub mod SoupPromise

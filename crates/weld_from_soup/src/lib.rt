@@ -5,9 +5,10 @@ ghost use Prim.Native.Nat.{_+_, _*_, _≤_};
 ghost use lib.ListN.{length};
 ghost use Rattle.weld.specs.Rep.{held, Ready, Runs};
 ghost use Rattle.mesh_spec.specs.Mesh.{fromSoup};
-ghost use Rattle.mesh_made.specs.Made.{lent, GivesMade};
+ghost use Rattle.mesh_made.specs.Made.{lent};
 ghost use Rattle.mesh_made.specs.Steps.{Makes};
-ghost use Rattle.weld_from_soup.specs.Soups.{triangleAt, soupOf, brokenSoup, soupRefusal, fromSoupOf};
+ghost use Rattle.weld_from_soup.specs.Soups.{triangleAt, soupOf, brokenSoup, soupRefusal};
+ghost use Rattle.weld_from_soup.specs.SoupPromise.{SoupPromise};
 use mesh_made::Made;
 use mesh_triples::vertex;
 use refusal::Refusal;
@@ -89,8 +90,8 @@ pub fn from_soup(
     triangles: &mut [u32],
     work: &mut [u32],
 ) -> Made
-    ensures { λ r. ⌜ GivesMade
-        (fromSoupOf (now (soup .entry)) (lent (now (vertices .entry)) (now (triangles .entry)) (now (work .entry))))
+    ensures { λ r. ⌜ SoupPromise
+        (now (soup .entry)) (lent (now (vertices .entry)) (now (triangles .entry)) (now (work .entry)))
         r (now (vertices .exit)) (now (triangles .exit)) (now (work .exit)) ⌝ }
 {
     let made = make(soup, vertices, triangles, work);

@@ -6,6 +6,7 @@ use Rattle.mesh_spec.specs.Mesh.{fromSoup}
 use Rattle.mesh_made.specs.Made.{lent, Ending, madeAs}
 use Rattle.mesh_made.proofs.Ending.{lent-same, gives-as, makes-lie, makes-gives}
 use Rattle.weld_from_soup.specs.Soups.{soupOf, soupRefusal, fromSoupOf}
+use Rattle.weld_from_soup.specs.SoupPromise.{soup-promised}
 use borrow.Author.Needs.{needs}
 use Rattle.weld_from_soup.proofs.from_soup.Statement.{statement}
 use Rattle.weld_from_soup.proofs.from_soup.Tie as tie
@@ -39,8 +40,9 @@ returns c =
     let lv : length vs ≡ length (now (a .vertices)) = search needs in
     let lt : length ts ≡ length (now (a .triangles)) = search needs in
     let lw : length ws ≡ length (now (a .work)) = search needs in
-    gives-as (ap {B = Ending} (madeAs (soupRefusal l n) (fromSoup (soupOf l))) (lent-same vs (now (a .vertices)) ts (now (a .triangles)) ws (now (a .work)) lv lt lw))
-    (makes-gives (soupRefusal l n) (fromSoup (soupOf l)) (m .make .result) vs ts ws (m .make .ensures) _ _ _ _ (e .end .ensures))
+    soup-promised l n _ _ _ _
+    (gives-as (ap {B = Ending} (madeAs (soupRefusal l n) (fromSoup (soupOf l))) (lent-same vs (now (a .vertices)) ts (now (a .triangles)) ws (now (a .work)) lv lt lw))
+    (makes-gives (soupRefusal l n) (fromSoup (soupOf l)) (m .make .result) vs ts ws (m .make .ensures) _ _ _ _ (e .end .ensures)))
 
 pub from-soup-spec : {M : Type 1} → statement M
 from-soup-spec =

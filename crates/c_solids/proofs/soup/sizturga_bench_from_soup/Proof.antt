@@ -20,7 +20,7 @@ same-length-3 : tie.Need-same-length-3
 same-length-3 c = search needs
 
 returns : tie.Need-returns
-returns c = tells (c .before .before .before .before .before .before .before .before .from-soup .ensures) (c .number .ensures)
+returns c = tells (c .before .before .before .before .before .before .before .before .from-soup .ensures .outcome) (c .number .ensures)
 
 pub sizturga-bench-from-soup-spec : {M : Type 1} → statement M
 sizturga-bench-from-soup-spec =
