@@ -6,7 +6,7 @@ use Prim.Native.Nat.{ℕ, zero, suc, _+_, _/_, _%_, _≤_, _<_}
 use native.Mathlib.Omega.{arith}
 use lib.Ieee.{Float, eq}
 use Rattle.math.specs.declared.Vec3.{Vec3}
-use Rattle.math.specs.Vec.{axis}
+use Rattle.math.specs.Vec.{axis, withAxis}
 use Rattle.weld.specs.Rep.{Held, Ready, Runs}
 use Rattle.weld.specs.Runs.{runs-none, runs-then, runs-as}
 use Rattle.surface.specs.Within.{FaceWithin}
@@ -18,7 +18,8 @@ use Rattle.surface_spec.specs.declared.Chart.{Chart}
 use Rattle.surface_spec.specs.declared.Chart.the-variants.{Cartesian, Cylindrical, Around}
 use Rattle.surface_spec.specs.declared.Surface.the-variants.{Face}
 use Rattle.solid_spec.specs.Grid.{Soup, grid}
-use Rattle.solid_spec.specs.ParamBox.{three, face, faces, paramBox}
+use Rattle.solid_spec.specs.ParamBox.{along, face, faces, paramBox}
+use Rattle.surface_spec.specs.Faces.{three, facePoint, numberedFace}
 use Rattle.surface_spec.specs.Surface.{mapped, lineOf, surfaceAt}
 use Rattle.surface_spec.proofs.SurfaceGrids.{face-surface}
 use Rattle.mesh_balance_spec.specs.Grid.{upto}
@@ -70,7 +71,7 @@ module _ (lo hi : Vec3) (n : ℕ) (turns : Bool) (chart : Chart) where
   pub face-runs : (p : List Float) (k : ℕ) (side : Bool) (u v : Line) (val : Float) (h r : Held)
       → u ≡ lineOf lo hi (three 1 n 1) (three false turns false) ((k + 1) % 3) → v ≡ lineOf lo hi (three 1 n 1) (three false turns false) ((k + 2) % 3)
       → val ≡ cond side (axis hi k) (axis lo k) → Runs (grid (u .n) (v .n) (not side) (surfaceAt p (Face chart k val u v))) h r
-      → Runs (face lo hi (three 1 n 1) (three false turns false) (mapped chart) k side) h r
+      → Runs (numberedFace lo hi (three 1 n 1) (three false turns false) (mapped chart) k side) h r
   face-runs p k side u v val h r eu ev e R =
       let U : Line = lineOf lo hi (three 1 n 1) (three false turns false) ((k + 1) % 3) in
       let W : Line = lineOf lo hi (three 1 n 1) (three false turns false) ((k + 2) % 3) in
@@ -86,12 +87,12 @@ module _ (lo hi : Vec3) (divs : ℕ → ℕ) (periodic : ℕ → Bool) (map : Ve
   pub face-gone : (f : ℕ) (b : Bool) (h : Held) → Ready h → not b ≡ true → b ≡ hasFace lo hi periodic f → Runs (faceOf lo hi divs periodic map f) h h
   unfolding faceOf
   face-gone f true h R n e = absurd (true≢false (sym n))
-  face-gone f false h R n e = runs-as (ap (λ (b : Bool). cond b (face lo hi divs periodic map (f / 2) (isHigh f)) []) e) (runs-none h R)
+  face-gone f false h R n e = runs-as (ap (λ (b : Bool). cond b (numberedFace lo hi divs periodic map (f / 2) (isHigh f)) []) e) (runs-none h R)
 
-  pub face-there : (f : ℕ) (b : Bool) (h r : Held) → not b ≡ false → b ≡ hasFace lo hi periodic f → Runs (face lo hi divs periodic map (f / 2) (isHigh f)) h r
+  pub face-there : (f : ℕ) (b : Bool) (h r : Held) → not b ≡ false → b ≡ hasFace lo hi periodic f → Runs (numberedFace lo hi divs periodic map (f / 2) (isHigh f)) h r
       → Runs (faceOf lo hi divs periodic map f) h r
   unfolding faceOf
-  face-there f true h r n e R = runs-as (ap (λ (b : Bool). cond b (face lo hi divs periodic map (f / 2) (isHigh f)) []) e) R
+  face-there f true h r n e R = runs-as (ap (λ (b : Bool). cond b (numberedFace lo hi divs periodic map (f / 2) (isHigh f)) []) e) R
   face-there f false h r n e R = absurd (true≢false n)
 
   -- one more face
@@ -107,16 +108,29 @@ module _ (lo hi : Vec3) (divs : ℕ → ℕ) (periodic : ℕ → Bool) (map : Ve
   two-faces false true xs low high = append-assoc xs low []
   two-faces false false xs low high = append-assoc xs low high
 
+  -- the faces of the axis k
+  both : ℕ → Soup
+  both k = cond (periodic k) [] (numberedFace lo hi divs periodic map k false ++ cond (eq (axis hi k) (axis lo k)) [] (numberedFace lo hi divs periodic map k true))
+
+  -- the box, with its axes by name
+  abbrev named : Soup
+  named = paramBox (along (lo .x) (hi .x) (divs 0) (periodic 0)) (along (lo .y) (hi .y) (divs 1) (periodic 1)) (along (lo .z) (hi .z) (divs 2) (periodic 2)) map
+
+  -- its axes are those of the numbers 0, 1 and 2
+  by-name : both 0 ++ both 1 ++ both 2 ≡ named
+  unfolding both paramBox faces face numberedFace facePoint withAxis axis
+  by-name = refl
+
   -- the six faces are the box
-  six-faces : upto 6 (faceOf lo hi divs periodic map) ≡ paramBox lo hi divs periodic map
-  unfolding paramBox faces faceOf hasFace
+  six-faces : upto 6 (faceOf lo hi divs periodic map) ≡ named
+  unfolding both faceOf hasFace
   six-faces =
       let side : ℕ → Soup = faceOf lo hi divs periodic map in
-      let both : ℕ → Soup = faces lo hi divs periodic map in
-      let e : (k : ℕ) (xs : Soup) → (xs ++ cond (cond (periodic k) false true) (face lo hi divs periodic map k false) [])
-      ++ cond (cond (periodic k) false (not (eq (axis hi k) (axis lo k)))) (face lo hi divs periodic map k true) [] ≡ xs ++ both k =
-      λ k xs. two-faces (periodic k) (eq (axis hi k) (axis lo k)) xs (face lo hi divs periodic map k false) (face lo hi divs periodic map k true) in
+      let e : (k : ℕ) (xs : Soup) → (xs ++ cond (cond (periodic k) false true) (numberedFace lo hi divs periodic map k false) [])
+      ++ cond (cond (periodic k) false (not (eq (axis hi k) (axis lo k)))) (numberedFace lo hi divs periodic map k true) [] ≡ xs ++ both k =
+      λ k xs. two-faces (periodic k) (eq (axis hi k) (axis lo k)) xs (numberedFace lo hi divs periodic map k false) (numberedFace lo hi divs periodic map k true) in
       ap (λ (xs : Soup). (((xs ++ side 2) ++ side 3) ++ side 4) ++ side 5) (e 0 []) ∙ ap (λ (xs : Soup). (xs ++ side 4) ++ side 5) (e 1 (both 0)) ∙ e 2 (both 0 ++ both 1)
+      ∙ by-name
 
-  pub box-runs : (f : ℕ) (h r : Held) → f ≡ 6 → Runs (upto f (faceOf lo hi divs periodic map)) h r → Runs (paramBox lo hi divs periodic map) h r
+  pub box-runs : (f : ℕ) (h r : Held) → f ≡ 6 → Runs (upto f (faceOf lo hi divs periodic map)) h r → Runs named h r
   box-runs f h r e R = runs-as (ap (λ (n : ℕ). upto n (faceOf lo hi divs periodic map)) e ∙ six-faces) R

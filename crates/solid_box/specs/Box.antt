@@ -8,7 +8,7 @@ use Rattle.surface_spec.specs.declared.Line.{Line}
 use Rattle.surface_spec.specs.declared.Chart.{Chart}
 use Rattle.surface_spec.specs.declared.Chart.the-variants.{Cartesian, Cylindrical, Around}
 use Rattle.solid_spec.specs.Grid.{Soup}
-use Rattle.solid_spec.specs.ParamBox.{three, face}
+use Rattle.surface_spec.specs.Faces.{three, numberedFace}
 use Rattle.surface_spec.specs.Surface.{lineOf}
 use Rattle.surface.specs.declared.turns.Turns.the-variants.{OnLine}
 use Rattle.surface.specs.Turns.{Filled}
@@ -29,4 +29,4 @@ pub record BoxWithin (lo hi : Vec3) (n : ℕ) (turns : Bool) (chart : Chart) (ta
 
 -- the triangles of face f
 unfoldable pub faceOf : Vec3 → Vec3 → (ℕ → ℕ) → (ℕ → Bool) → (Vec3 → Vec3) → ℕ → Soup
-faceOf lo hi divs periodic map f = cond (hasFace lo hi periodic f) (face lo hi divs periodic map (f / 2) (isHigh f)) []
+faceOf lo hi divs periodic map f = cond (hasFace lo hi periodic f) (numberedFace lo hi divs periodic map (f / 2) (isHigh f)) []

@@ -3,8 +3,8 @@ ghost use mathlib.Core.Bool.{false};
 ghost use Prim.Native.Nat.{_<_};
 ghost use lib.ListN.{length};
 ghost use Rattle.weld.specs.Rep.{held, Ready, Runs};
-ghost use Rattle.solid_spec.specs.ParamBox as Box;
-ghost use Rattle.solid_spec.specs.ParamBox.{three};
+ghost use Rattle.solid_spec.specs.ParamBox.{along, paramBox};
+ghost use Rattle.surface_spec.specs.Faces.{three};
 ghost use Rattle.surface_spec.specs.Surface.{mapped};
 ghost use Rattle.solid_box.specs.Box.{BoxWithin, faceOf};
 use math::Vec3;
@@ -82,7 +82,8 @@ pub fn weld_param_box(
 ) -> Welder
     requires { ⌜ Ready (held w (now vertices) (now triangles) (now work)) ⌝ }
     requires { ⌜ BoxWithin lo hi n turns chart (now table) (length (now numbers)) ⌝ }
-    ensures { λ r. ⌜ Runs (Box.paramBox lo hi (three 1 n 1) (three false turns false) (mapped chart))
+    ensures { λ r. ⌜ Runs
+        (paramBox (along (lo .x) (hi .x) 1 false) (along (lo .y) (hi .y) n turns) (along (lo .z) (hi .z) 1 false) (mapped chart))
         (held w (now (vertices .entry)) (now (triangles .entry)) (now (work .entry)))
         (held r (now (vertices .exit)) (now (triangles .exit)) (now (work .exit))) ⌝ }
 {

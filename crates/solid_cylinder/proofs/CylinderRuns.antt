@@ -6,24 +6,24 @@ use Prim.Native.Nat.{ℕ, max}
 use lib.Ieee.{Float, eq, le}
 use Rattle.ieee.specs.Number.{plusZero, maximum, tau}
 use Rattle.math.specs.declared.Vec3.{Vec3}
-use Rattle.math.specs.Vec.{new, vSub, vDiv, norm}
+use Rattle.math.specs.Vec.{vSub, vDiv, norm}
 use Rattle.weld.specs.Rep.{Held, Ready, Runs}
 use Rattle.weld.specs.Runs.{runs-none, runs-as}
 use Rattle.surface_spec.specs.declared.Chart.the-variants.{Around}
 use Rattle.surface_spec.specs.Surface.{mapped}
 use Rattle.surface_spec.proofs.SurfaceGrids.{tube-chart}
-use Rattle.solid_spec.specs.ParamBox.{three, paramBox}
+use Rattle.solid_spec.specs.Grid.{Soup}
+use Rattle.solid_spec.specs.ParamBox.{along, paramBox}
 use Rattle.solid_spec.specs.Cylinder.{frame1, frame2, tube, cylinder}
 
+-- the parameter box of a tube
+abbrev tubed : Float → Float → Float → ℕ → (Vec3 → Vec3) → Soup
+tubed inner r1 len n map = paramBox (along inner r1 1 false) (along plusZero tau n true) (along plusZero len 1 false) map
+
 pub tube-runs : (a d e1 e2 : Vec3) (len r0 r1 inner : Float) (segments np : ℕ) (h k : Held) → inner ≡ maximum r0 plusZero → np ≡ max segments 3 → e1 ≡ frame1 d → e2 ≡ frame2 d
-    → Runs (paramBox (new inner plusZero plusZero) (new r1 tau len) (three 1 np 1) (three false true false) (mapped (Around a d e1 e2))) h k → Runs (tube a d len r0 r1 segments) h k
+    → Runs (tubed inner r1 len np (mapped (Around a d e1 e2))) h k → Runs (tube a d len r0 r1 segments) h k
 tube-runs a d e1 e2 len r0 r1 inner segments np h k p q x y R =
-    runs-as
-    (ap (λ (f : Float). paramBox (new f plusZero plusZero) (new r1 tau len) (three 1 np 1) (three false true false) (mapped (Around a d e1 e2))) p
-    ∙ ap (λ (n : ℕ). paramBox (new (maximum r0 plusZero) plusZero plusZero) (new r1 tau len) (three 1 n 1) (three false true false) (mapped (Around a d e1 e2))) q
-    ∙ ap (λ (v : Vec3). paramBox (new (maximum r0 plusZero) plusZero plusZero) (new r1 tau len) (three 1 (max segments 3) 1) (three false true false) (mapped (Around a d v e2))) x
-    ∙ ap (λ (v : Vec3). paramBox (new (maximum r0 plusZero) plusZero plusZero) (new r1 tau len) (three 1 (max segments 3) 1) (three false true false) (mapped (Around a d (frame1 d) v))) y
-    ∙ sym (tube-chart a d len r0 r1 segments)) R
+    runs-as ((λ i. tubed (p i) r1 len (q i) (mapped (Around a d (x i) (y i)))) ∙ sym (tube-chart a d len r0 r1 segments)) R
 
 module _ (a b : Vec3) (r0 r1 : Float) (segments : ℕ) where
   cylinder-is : (v : Vec3) (len : Float) (s t : Bool) → v ≡ vSub b a → len ≡ norm v → eq len plusZero ≡ s → le r1 plusZero ≡ t

@@ -12,15 +12,14 @@ use Rattle.math.specs.Vec.{vMin, vMax}
 use Rattle.mesh_balance_spec.specs.Soup.{Balanced, mapTri}
 use Rattle.mesh_spec.specs.Mesh.{plusZeroV, everyFinite}
 use Rattle.shape.specs.Arc.{arcSegments, isFull}
-use Rattle.solid_spec.specs.ParamBox.{three, paramBox}
 use Rattle.solid_spec.specs.Coords.{cylindricalToCartesian}
 use Rattle.solid_spec.specs.Boxes.{asIs, turnedTo, cylindricalBox, boxShape, boxSoup}
 use Rattle.solid_spec.proofs.Every.{Sound, sound-of}
 use Rattle.solid_spec.proofs.Closes.{Closes}
-use Rattle.solid_spec.proofs.Coord.{Axis}
+use Rattle.solid_spec.proofs.Coord.{AxisWithin}
 use Rattle.solid_spec.proofs.Unequal.{ends-unequal, minimum-fits}
 use Rattle.shape.specs.ArcLaws.{arcSegments-some, arcSegments-few}
-use Rattle.solid_spec.proofs.ParamBoxBalanced.{six-faces, four-faces}
+use Rattle.solid_spec.proofs.ParamBoxBalanced.{boxed, six-faces, four-faces}
 use Rattle.solid_spec.proofs.Maps.{asIs-respects, asIs-shows, cylindrical-respects, cylindrical-shows}
 use Rattle.solid_spec.specs.Fits.{Bounded}
 
@@ -37,20 +36,19 @@ module _ (a b : Vec3) (g : Bounded a b) where
   unfolding vMin vMax
   apart-z = ends-unequal binary64 (a .z) (b .z) (g .fits-a .z) (g .fits-b .z) (g .finite-a .z) (g .finite-b .z) (g .unequal-z)
 
-  axis-x : (n : ℕ) → 1 ≤ n → n ≤ 1024 → Axis (vMin a b .x) n
+  axis-x : (n : ℕ) → 1 ≤ n → n ≤ 1024 → AxisWithin (vMin a b .x) n
   unfolding vMin
   axis-x n p q = record { fit = minimum-fits binary64 (a .x) (b .x) (g .fits-a .x) (g .fits-b .x); some = p; few = q }
 
-  axis-y : (n : ℕ) → 1 ≤ n → n ≤ 1024 → Axis (vMin a b .y) n
+  axis-y : (n : ℕ) → 1 ≤ n → n ≤ 1024 → AxisWithin (vMin a b .y) n
   unfolding vMin
   axis-y n p q = record { fit = minimum-fits binary64 (a .y) (b .y) (g .fits-a .y) (g .fits-b .y); some = p; few = q }
 
-  axis-z : (n : ℕ) → 1 ≤ n → n ≤ 1024 → Axis (vMin a b .z) n
+  axis-z : (n : ℕ) → 1 ≤ n → n ≤ 1024 → AxisWithin (vMin a b .z) n
   unfolding vMin
   axis-z n p q = record { fit = minimum-fits binary64 (a .z) (b .z) (g .fits-a .z) (g .fits-b .z); some = p; few = q }
 
-  cartesian-closes : Sound (paramBox (vMin a b) (vMax a b) (three 1 1 1) (three false false false) asIs)
-      → Closes (paramBox (vMin a b) (vMax a b) (three 1 1 1) (three false false false) asIs)
+  cartesian-closes : Sound (boxed (vMin a b) (vMax a b) 1 1 1 false asIs) → Closes (boxed (vMin a b) (vMax a b) 1 1 1 false asIs)
   cartesian-closes =
       six-faces (vMin a b) (vMax a b) 1 1 1 asIs asIs-respects asIs-shows
       (axis-x 1 (omega arith) (omega arith)) (axis-y 1 (omega arith) (omega arith)) (axis-z 1 (omega arith) (omega arith)) apart-x apart-z apart-y

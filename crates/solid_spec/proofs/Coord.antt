@@ -14,7 +14,7 @@ use Rattle.ieee.specs.Ends.{point, first-point}
 use Rattle.solid_spec.specs.ParamBox.{coord}
 
 -- an axis in n parts, of a low bound that the format holds
-pub record Axis (lo : Float) (n : ℕ) : Type 0 where
+pub record AxisWithin (lo : Float) (n : ℕ) : Type 0 where
   pub fit : T (fits binary64 lo)
   pub some : 1 ≤ n
   pub few : n ≤ 1024
@@ -28,7 +28,7 @@ zero-line lo hi zero w h = absurd (none h)
     none : 1 ≤ 0 → ⊥
     none h = omega arith
 
-pub coord-start : (lo hi : Float) (n : ℕ) (w : Bool) → Axis lo n → T (finite (sub binary64 hi lo)) → Same lo (coord lo hi n w 0)
+pub coord-start : (lo hi : Float) (n : ℕ) (w : Bool) → AxisWithin lo n → T (finite (sub binary64 hi lo)) → Same lo (coord lo hi n w 0)
 coord-start lo hi n w a t = rw (zero-line lo hi n w (a .some)) (same-sym (point lo hi n 0) lo (first-point lo hi n (a .fit) t (a .some) (a .few)))
 
 pub coord-end : (lo hi : Float) (n : ℕ) → coord lo hi n false n ≡ hi

@@ -10,11 +10,11 @@ use lib.Ieee.{fin, add, sub, mul, div, neg, ofInt, ofBits, eq, lt, le, isNan, fi
 use Rattle.ieee.specs.Number.{plusZero, minimum, maximum, absolute, ceiling, tau}
 use Rattle.trig.specs.Trig.{sinCos}
 use Rattle.math.specs.declared.Vec3.{Vec3}
-use Rattle.math.specs.Vec.{new, one, zeroV, axis, withAxis, vAdd, vMul, vMin, vMax, vFinite}
+use Rattle.math.specs.Vec.{new, one, zeroV, vAdd, vMul, vMin, vMax, vFinite}
 use Rattle.mesh_balance_spec.specs.Soup.{Balanced, mapTri}
 use Rattle.mesh_spec.specs.Mesh.{plusZeroV, everyFinite}
 use Rattle.solid_spec.specs.Grid.{Soup, grid}
-use Rattle.solid_spec.specs.ParamBox.{coord, facePoint, face, faces, paramBox}
+use Rattle.solid_spec.specs.ParamBox.{coord, face, faces, paramBox}
 use Rattle.solid_spec.specs.Coords.{toCartesian}
 use Rattle.solid_spec.specs.Sphere.{latitude, longitude, onSphere, spherePoint, sphere, sphereSoup}
 use Rattle.shape.specs.Arc.{countedSpan, arcShare, arcSegments, fullSpan, isFull}
@@ -55,18 +55,18 @@ abbrev pub block : Soup
 block = boxSoup false zeroV farCorner 32
 
 pub block-size : length block ≡ 12
-unfolding boxShape paramBox faces face grid axis vMin vMax minimum maximum isNan lt eq
+unfolding boxShape paramBox faces face grid vMin vMax minimum maximum isNan lt eq
 block-size = refl
 
 -- its first two triangles
 pub block-first : take 2 (map (mapTri plusZeroV) block)
     ≡ (zeroV, new plusZero plusZero (fin false 3 (pos 0)), new plusZero (fin false 1 (pos 1)) (fin false 3 (pos 0)))
     ∷ (zeroV, new plusZero (fin false 1 (pos 1)) (fin false 3 (pos 0)), new plusZero (fin false 1 (pos 1)) plusZero) ∷ []
-unfolding boxShape paramBox faces face grid facePoint withAxis coord axis vMin vMax minimum maximum isNan lt eq plusZeroV add sub mul div ofInt ofBits
+unfolding boxShape paramBox faces face grid coord vMin vMax minimum maximum isNan lt eq plusZeroV add sub mul div ofInt ofBits
 block-first = refl
 
 pub block-finite : everyFinite block ≡ true
-unfolding boxShape paramBox faces face grid facePoint withAxis coord axis vMin vMax minimum maximum isNan lt eq everyFinite vFinite add sub mul div ofInt
+unfolding boxShape paramBox faces face grid coord vMin vMax minimum maximum isNan lt eq everyFinite vFinite add sub mul div ofInt
 block-finite = refl
 
 block-bounded : Bounded zeroV farCorner
@@ -86,11 +86,11 @@ block-balanced = boxSoup-balanced false zeroV farCorner 32 (lit≤ tt) block-bou
 
 -- the cylindrical box (0,0,0) to (1,TAU,1) with 3 segments: a full turn, with no end faces
 pub full-size : length (boxSoup true zeroV (new one tau one) 3) ≡ 24
-unfolding boxShape cylindricalBox turnedTo isFull fullSpan paramBox faces face grid axis vMin vMax minimum maximum isNan lt le eq
+unfolding boxShape cylindricalBox turnedTo isFull fullSpan paramBox faces face grid vMin vMax minimum maximum isNan lt le eq
     arcSegments arcShare countedSpan ceiling absolute add sub mul div ofInt ofBits
 full-size = refl
 
 -- (P) the box (0,0,0) to (1,2,0): the low face of the flat axis is there, the high one is not
 pub flat-size : length (boxSoup false zeroV (new one (fin false 1 (pos 1)) plusZero) 32) ≡ 10
-unfolding boxShape paramBox faces face grid axis vMin vMax minimum maximum isNan lt eq
+unfolding boxShape paramBox faces face grid vMin vMax minimum maximum isNan lt eq
 flat-size = refl

@@ -10,7 +10,7 @@ use Rattle.math.specs.Vec.{new, vMin, vMax}
 use Rattle.mesh_spec.specs.Slices.{vertexAt}
 use Rattle.shape.specs.Arc.{arcSegments, isFull}
 use Rattle.solid_spec.specs.Grid.{Soup}
-use Rattle.solid_spec.specs.ParamBox.{three, paramBox}
+use Rattle.solid_spec.specs.ParamBox.{along, paramBox}
 use Rattle.solid_spec.specs.Coords.{cylindricalToCartesian}
 
 -- the identity, as a Cartesian box maps its points
@@ -25,7 +25,8 @@ turnedTo full lo hi = cond full (new (hi .x) (add binary64 (lo .y) tau) (hi .z))
 unfoldable pub cylindricalBox : Bool → Vec3 → Vec3 → ℕ → Soup
 cylindricalBox full lo hi segments =
     let high = turnedTo full lo hi in
-    paramBox lo high (three 1 (arcSegments segments (sub binary64 (high .y) (lo .y))) 1) (three false full false) cylindricalToCartesian
+    let n = arcSegments segments (sub binary64 (high .y) (lo .y)) in
+    paramBox (along (lo .x) (high .x) 1 false) (along (lo .y) (high .y) n full) (along (lo .z) (high .z) 1 false) cylindricalToCartesian
 
 -- `box_shape`
 unfoldable pub boxShape : Vec3 → Vec3 → Bool → ℕ → Soup
@@ -33,7 +34,7 @@ boxShape a b cylindrical segments =
     let lo = vMin a b in
     let hi = vMax a b in
     cond cylindrical (cylindricalBox (isFull (sub binary64 (hi .y) (lo .y))) lo hi segments)
-    (paramBox lo hi (three 1 1 1) (three false false false) asIs)
+    (paramBox (along (lo .x) (hi .x) 1 false) (along (lo .y) (hi .y) 1 false) (along (lo .z) (hi .z) 1 false) asIs)
 
 -- the case Box of `tessellate`, in its effective system
 abbrev pub boxSoup : Bool → Vec3 → Vec3 → ℕ → Soup

@@ -6,9 +6,9 @@ use lib.Ieee.{Float, binary64, add, sub, ofBits, eq, le, lt}
 use Rattle.ieee.specs.Number.{plusZero, maximum, absolute, tau}
 use Rattle.trig.specs.Trig.{sinCos}
 use Rattle.math.specs.declared.Vec3.{Vec3}
-use Rattle.math.specs.Vec.{new, unit, vAdd, vSub, vMul, vDiv, cross, norm, normalized}
+use Rattle.math.specs.Vec.{unit, vAdd, vSub, vMul, vDiv, cross, norm, normalized}
 use Rattle.solid_spec.specs.Grid.{Soup}
-use Rattle.solid_spec.specs.ParamBox.{three, paramBox}
+use Rattle.solid_spec.specs.ParamBox.{along, paramBox}
 use Rattle.solid_spec.specs.Coords.{toCartesian}
 use Rattle.solid_spec.specs.Sphere.{half}
 
@@ -29,7 +29,7 @@ aroundAxis a d e1 e2 p =
 -- `cylinder` from its line `let (e1, e2)` on, of the length len in the direction d
 unfoldable pub tube : Vec3 → Vec3 → Float → Float → Float → ℕ → Soup
 tube a d len r0 r1 segments =
-    paramBox (new (maximum r0 plusZero) plusZero plusZero) (new r1 tau len) (three 1 (max segments 3) 1) (three false true false)
+    paramBox (along (maximum r0 plusZero) r1 1 false) (along plusZero tau (max segments 3) true) (along plusZero len 1 false)
     (aroundAxis a d (frame1 d) (frame2 d))
 
 -- `cylinder`: nothing where the length comes out as 0 or the outer radius is at most 0

@@ -1,20 +1,24 @@
 -- `Soup::param_box` of src/tessellate.rs: the surface of a parameter box, mapped. Definitions only.
 use mathlib.Core.List.{[], _++_}
 use mathlib.Core.Bool.{Bool, true, false, cond, not, _&&_}
-use Prim.Native.Nat.{ℕ, zero, suc, _+_, _%_}
+use Prim.Native.Nat.{ℕ}
 use lib.IntN.{pos}
 use lib.Dec.{eqb}
 use lib.Ieee.{Float, binary64, add, sub, mul, div, ofInt, eq}
 use Rattle.math.specs.declared.Vec3.{Vec3}
-use Rattle.math.specs.Vec.{zeroV, axis, withAxis}
-use Rattle.mesh_balance_spec.specs.Grid.{upto}
+use Rattle.math.specs.Vec.{new}
 use Rattle.solid_spec.specs.Grid.{Soup, grid}
 
--- `[a, b, c][k]`
-abbrev pub three : {A : Type 0} → A → A → A → ℕ → A
-three a b c zero = a
-three a b c (suc zero) = b
-three a b c (suc (suc k)) = c
+-- one axis k of the box: `lo[k]`, `hi[k]`, `divs[k]` and `periodic[k]`
+pub record Axis : Type 0 where
+  pub lo : Float
+  pub hi : Float
+  pub parts : ℕ
+  pub periodic : Bool
+
+-- the axis from lo to hi, in so many parts
+abbrev pub along : Float → Float → ℕ → Bool → Axis
+along lo hi parts periodic = record { lo = lo; hi = hi; parts = parts; periodic = periodic }
 
 -- `coord`: grid line i of an axis from lo to hi in n parts
 unfoldable pub coord : Float → Float → ℕ → Bool → ℕ → Float
@@ -22,27 +26,20 @@ coord lo hi n periodic i =
     cond (periodic && eqb i n) lo
     (cond (eqb i n) hi (add binary64 lo (div binary64 (mul binary64 (sub binary64 hi lo) (ofInt binary64 (pos i))) (ofInt binary64 (pos n)))))
 
--- the p of the closure: `Vec3::ZERO` after `p[k] = val`, `p[u] = a`, `p[v] = b`, with u = (k + 1) % 3 and v = (k + 2) % 3
-unfoldable pub facePoint : ℕ → Float → Float → Float → Vec3
-facePoint k val a b = withAxis (withAxis (withAxis zeroV k val) ((k + 1) % 3) a) ((k + 2) % 3) b
+abbrev pub line : Axis → ℕ → Float
+line a i = coord (a .lo) (a .hi) (a .parts) (a .periodic) i
 
-module _ (lo hi : Vec3) (divs : ℕ → ℕ) (periodic : ℕ → Bool) (map : Vec3 → Vec3) where
-  -- `coord(axis, i)`
-  abbrev pub line : ℕ → ℕ → Float
-  line k i = coord (axis lo k) (axis hi k) (divs k) (periodic k) i
+-- the call of `grid` for one side of an axis, at val: a grid over the next two axes, u and v. `point` makes `map(p)` of p[k], p[u] and p[v]
+unfoldable pub face : Axis → Axis → (Float → Float → Float → Vec3) → Bool → Float → Soup
+face u v point side val = grid (u .parts) (v .parts) (not side) (λ i j. point val (line u i) (line v j))
 
-  -- the closure that each face hands to `Soup::grid`: its point (i, j), at val on the axis k
-  abbrev pub faceAt : ℕ → Float → ℕ → ℕ → Vec3
-  faceAt k val i j = map (facePoint k val (line ((k + 1) % 3) i) (line ((k + 2) % 3) j))
+-- one turn of the loop over k: no face where the axis is periodic, and the high one only where the bounds differ
+unfoldable pub faces : Axis → Axis → Axis → (Float → Float → Float → Vec3) → Soup
+faces k u v point = cond (k .periodic) [] (face u v point false (k .lo) ++ cond (eq (k .hi) (k .lo)) [] (face u v point true (k .hi)))
 
-  -- one face of the axis k: at lo[k], or where side says so at hi[k]
-  unfoldable pub face : ℕ → Bool → Soup
-  face k side = grid (divs ((k + 1) % 3)) (divs ((k + 2) % 3)) (not side) (faceAt k (cond side (axis hi k) (axis lo k)))
-
-  -- the faces of the axis k: none where it is periodic, and the high one only where the bounds differ
-  unfoldable pub faces : ℕ → Soup
-  faces k = cond (periodic k) [] (face k false ++ cond (eq (axis hi k) (axis lo k)) [] (face k true))
-
-  -- `Soup::param_box`
-  unfoldable pub paramBox : Soup
-  paramBox = upto 3 faces
+-- `Soup::param_box`: each axis k with u = (k + 1) % 3 and v = (k + 2) % 3
+unfoldable pub paramBox : Axis → Axis → Axis → (Vec3 → Vec3) → Soup
+paramBox x y z map =
+    faces x y z (λ p a b. map (new p a b))
+    ++ faces y z x (λ p a b. map (new b p a))
+    ++ faces z x y (λ p a b. map (new a b p))

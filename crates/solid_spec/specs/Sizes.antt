@@ -9,7 +9,7 @@ use lib.Ieee.{Float, binary64, add, sub, mul, div, neg, ofInt, ofBits, eq, ne, l
 use Rattle.ieee.specs.Number.{minimum, maximum, absolute, ceiling, plusZero, tau}
 use Rattle.root.specs.Sqrt.{sqrt}
 use Rattle.math.specs.declared.Vec3.{Vec3}
-use Rattle.math.specs.Vec.{new, axis, vSub, vMin, vMax, vDiv, dot, normSq, norm}
+use Rattle.math.specs.Vec.{new, vSub, vMin, vMax, vDiv, dot, normSq, norm}
 use Rattle.outline.specs.Corners.{point, same}
 use Rattle.outline.specs.Axes.{planeAxes}
 use Rattle.outline.specs.Clean.{endsIn, pushed, gathered, stay, cleanPolygon}
@@ -68,12 +68,12 @@ sizes shape list = each (partsOf false shape (floats list) (record { segments = 
 
 -- a box: two triangles for each of its six faces
 box-size : sizes (Box (at 0 0 0) (at 1 2 3)) [] ≡ 12 ∷ []
-unfolding partsOf boxShape paramBox faces face grid axis vMin vMax minimum maximum isNan lt eq ofInt
+unfolding partsOf boxShape paramBox faces face grid vMin vMax minimum maximum isNan lt eq ofInt
 box-size = refl
 
 -- two boxes
 multi-box-size : sizes MultiBox (0 ∷ 0 ∷ 0 ∷ 1 ∷ 2 ∷ 3 ∷ 4 ∷ 4 ∷ 4 ∷ 5 ∷ 5 ∷ 5 ∷ []) ≡ 12 ∷ 12 ∷ []
-unfolding partsOf multiBoxParts boxShape paramBox faces face grid axis vMin vMax minimum maximum isNan lt eq ofInt
+unfolding partsOf multiBoxParts boxShape paramBox faces face grid vMin vMax minimum maximum isNan lt eq ofInt
 multi-box-size = refl
 
 -- 4 × 5 cells of two triangles
@@ -88,11 +88,11 @@ spherical-shell-size = refl
 
 -- 5 segments: the outer and the inner side, which is the axis, and two caps
 cylinder-size : sizes (Cylinder (at 0 0 0) (at 0 0 1) (float 1)) [] ≡ 40 ∷ []
-unfolding partsOf cylinderSoup toCartesian cylinder tube norm normSq dot vSub sqrt paramBox faces face grid axis maximum isNan lt le eq add sub mul ofInt ofBits
+unfolding partsOf cylinderSoup toCartesian cylinder tube norm normSq dot vSub sqrt paramBox faces face grid maximum isNan lt le eq add sub mul ofInt ofBits
 cylinder-size = refl
 
 cylindrical-shell-size : sizes (CylindricalShell (at 0 0 0) (at 0 0 1) (float 2) (float 1)) [] ≡ 40 ∷ []
-unfolding partsOf cylindricalShellSoup toCartesian cylinder tube norm normSq dot vSub sqrt paramBox faces face grid axis maximum isNan
+unfolding partsOf cylindricalShellSoup toCartesian cylinder tube norm normSq dot vSub sqrt paramBox faces face grid maximum isNan
     lt le eq add sub mul div ofInt ofBits
 cylindrical-shell-size = refl
 
@@ -114,5 +114,5 @@ rotated-size = refl
 -- three points: two tubes, and a sphere at the inner point
 wire-size : sizes (Wire (float 1)) (0 ∷ 0 ∷ 0 ∷ 0 ∷ 0 ∷ 1 ∷ 0 ∷ 1 ∷ 1 ∷ []) ≡ 40 ∷ 40 ∷ 40 ∷ []
 unfolding partsOf wireParts wireTubes wireJoints wirePoint toCartesian cylinder tube norm normSq dot vSub sqrt sphere
-    paramBox faces face grid axis maximum isNan lt le eq add sub mul ofInt ofBits
+    paramBox faces face grid maximum isNan lt le eq add sub mul ofInt ofBits
 wire-size = refl

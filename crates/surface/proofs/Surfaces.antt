@@ -14,7 +14,7 @@ use Rattle.surface_spec.specs.declared.Chart.{Chart}
 use Rattle.surface_spec.specs.declared.Chart.the-variants.{Cartesian, Cylindrical, Around}
 use Rattle.surface_spec.specs.declared.Surface.{Surface}
 use Rattle.surface_spec.specs.declared.Surface.the-variants.{Face, Sphere, Extruded, Rotated}
-use Rattle.solid_spec.specs.ParamBox.{facePoint}
+use Rattle.surface_spec.specs.Faces.{facePoint}
 use Rattle.solid_spec.specs.Coords.{cylindricalToCartesian}
 use Rattle.solid_spec.specs.Cylinder.{aroundAxis}
 use Rattle.solid_spec.specs.Sphere.{spherePoint, onSphere}

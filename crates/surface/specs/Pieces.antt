@@ -8,7 +8,7 @@ use Rattle.math.specs.declared.Vec3.{Vec3}
 use Rattle.outline.specs.Corners.{point}
 use Rattle.surface_spec.specs.declared.Line.{Line}
 use Rattle.surface_spec.specs.declared.Chart.{Chart}
-use Rattle.solid_spec.specs.ParamBox.{facePoint}
+use Rattle.surface_spec.specs.Faces.{facePoint}
 use Rattle.solid_spec.specs.Outline.{planePoint, spun, height}
 use Rattle.surface_spec.specs.Surface.{mapped, lineAt}
 use Rattle.surface.specs.declared.point.Polar.{Polar}

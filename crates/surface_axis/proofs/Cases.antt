@@ -4,7 +4,7 @@ use Prim.Native.Nat.{ℕ, _<_}
 use native.Mathlib.Omega.{arith}
 use lib.Ieee.{Float}
 use Rattle.math.specs.Vec.{new, withAxis}
-use Rattle.solid_spec.specs.ParamBox.{facePoint}
+use Rattle.surface_spec.specs.Faces.{facePoint}
 
 module _ (k : ℕ) (val a b : Float) where
   pub face-0 : k ≡ 0 → new val a b ≡ facePoint k val a b

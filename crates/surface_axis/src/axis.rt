@@ -2,6 +2,7 @@
 ghost use mathlib.Core.Path.{_≡_};
 ghost use Prim.Native.Nat.{_≤_, _<_};
 ghost use Rattle.solid_spec.specs.ParamBox as Box;
+ghost use Rattle.surface_spec.specs.Faces.{facePoint};
 ghost use Rattle.surface_spec.specs.Surface.{lineAt};
 use math::Vec3;
 use surface_spec::Line;
@@ -28,7 +29,7 @@ pub fn line_at(l: Line, i: usize) -> f64
 // The point with val on the axis k, a on the next axis and b on the one after that.
 pub fn face_point(k: usize, val: f64, a: f64, b: f64) -> Vec3
     requires { ⌜ k < 3 ⌝ }
-    ensures { λ r. ⌜ r ≡ Box.facePoint k val a b ⌝ }
+    ensures { λ r. ⌜ r ≡ facePoint k val a b ⌝ }
 {
     if k == 0 {
         Vec3 { x: val, y: a, z: b }

@@ -7,7 +7,7 @@ use lib.Ieee.{Float, binary64, add, eq, ne}
 use Rattle.ieee.specs.Number.{tau}
 use Rattle.math.specs.declared.Vec3.{Vec3}
 use Rattle.math.specs.Vec.{new, axis}
-use Rattle.solid_spec.specs.ParamBox.{three}
+use Rattle.surface_spec.specs.Faces.{three}
 use Rattle.solid_spec.specs.Boxes.{turnedTo}
 use Rattle.surface_box.specs.Faces.{isHigh, hasFace}
 

@@ -9,7 +9,8 @@ use Rattle.math.specs.Vec.{axis}
 use Rattle.mesh_balance_spec.specs.Grid.{quadTurned}
 use Rattle.surface_spec.specs.declared.Chart.the-variants.{Cartesian}
 use Rattle.solid_spec.specs.Grid.{Soup, grid}
-use Rattle.solid_spec.specs.ParamBox.{three, coord, facePoint, face}
+use Rattle.solid_spec.specs.ParamBox.{coord}
+use Rattle.surface_spec.specs.Faces.{three, facePoint, numberedFace}
 use Rattle.surface_spec.specs.Surface.{mapped}
 use Rattle.surface_box.specs.declared.Four.{Four}
 use Rattle.surface_box.specs.Flat.{quadOf}
@@ -31,8 +32,8 @@ module _ (lo hi : Vec3) where
 
   face-between : (k : ℕ) (side : Bool) → k < 3 →
       between k side (cond side (axis hi k) (axis lo k)) (first ((k + 1) % 3)) (first ((k + 2) % 3)) (axis hi ((k + 1) % 3)) (axis hi ((k + 2) % 3))
-      ≡ face lo hi (three 1 1 1) (three false false false) (mapped Cartesian) k side
-  unfolding face grid coord mapped
+      ≡ numberedFace lo hi (three 1 1 1) (three false false false) (mapped Cartesian) k side
+  unfolding numberedFace grid coord mapped
   face-between zero true h = refl
   face-between zero false h = refl
   face-between (suc zero) true h = refl
@@ -47,6 +48,6 @@ module _ (lo hi : Vec3) where
   pub face-is : (k : ℕ) (side : Bool) (r : Four) (p q s t : Vec3) (val a b c d : Float) → k < 3 → quadOf r ≡ quadTurned (not side) p q s t
       → p ≡ facePoint k val a b → q ≡ facePoint k val c b → s ≡ facePoint k val c d → t ≡ facePoint k val a d
       → val ≡ cond side (axis hi k) (axis lo k) → a ≡ first ((k + 1) % 3) → b ≡ first ((k + 2) % 3) → c ≡ axis hi ((k + 1) % 3) → d ≡ axis hi ((k + 2) % 3)
-      → quadOf r ≡ face lo hi (three 1 1 1) (three false false false) (mapped Cartesian) k side
+      → quadOf r ≡ numberedFace lo hi (three 1 1 1) (three false false false) (mapped Cartesian) k side
   face-is k side r p q s t val a b c d h e ep eq es et ev ea eb ec ed =
       e ∙ (λ i. quadTurned (not side) (ep i) (eq i) (es i) (et i)) ∙ (λ i. between k side (ev i) (ea i) (eb i) (ec i) (ed i)) ∙ face-between k side h

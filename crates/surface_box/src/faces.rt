@@ -2,7 +2,7 @@
 ghost use mathlib.Core.Path.{_≡_};
 ghost use mathlib.Core.Bool.{false, cond};
 ghost use Rattle.math.specs.Vec.{axis};
-ghost use Rattle.solid_spec.specs.ParamBox.{three};
+ghost use Rattle.surface_spec.specs.Faces.{three};
 ghost use Rattle.surface_spec.specs.Surface.{lineOf};
 ghost use Rattle.surface_box.specs.Faces.{hasFace};
 use math::Vec3;

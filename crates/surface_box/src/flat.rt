@@ -6,7 +6,7 @@ ghost use Rattle.math.specs.Vec.{axis};
 ghost use Rattle.mesh_balance_spec.specs.Grid.{quadTurned};
 ghost use Rattle.surface_spec.specs.declared.Chart.the-variants.{Cartesian};
 ghost use Rattle.solid_spec.specs.ParamBox as Box;
-ghost use Rattle.solid_spec.specs.ParamBox.{three};
+ghost use Rattle.surface_spec.specs.Faces.{three, numberedFace};
 ghost use Rattle.surface_spec.specs.Surface.{mapped};
 ghost use Rattle.surface_box.specs.Flat.{quadOf};
 use crate::Four;
@@ -34,7 +34,7 @@ fn in_order(side: bool, a: Vec3, b: Vec3, c: Vec3, d: Vec3) -> Four
 // The face on the axis k: the low one, or where side says so the high one.
 pub fn face(lo: Vec3, hi: Vec3, k: usize, side: bool) -> Four
     requires { ⌜ k < 3 ⌝ }
-    ensures { λ r. ⌜ quadOf r ≡ Box.face lo hi (three 1 1 1) (three false false false) (mapped Cartesian) k side ⌝ }
+    ensures { λ r. ⌜ quadOf r ≡ numberedFace lo hi (three 1 1 1) (three false false false) (mapped Cartesian) k side ⌝ }
 {
     let u = (k + 1) % 3;
     let v = (k + 2) % 3;

@@ -7,27 +7,28 @@ use lib.ListN.{length}
 use lib.Ieee.{Float}
 use Rattle.math.specs.declared.Vec3.{Vec3}
 use Rattle.ieee.specs.Number.{plusZero, maximum, tau}
-use Rattle.math.specs.Vec.{new, axis}
+use Rattle.math.specs.Vec.{axis}
 use Rattle.surface_spec.specs.declared.Chart.{Chart}
 use Rattle.surface_spec.specs.declared.Chart.the-variants.{Cartesian, Cylindrical, Around}
 use Rattle.surface_spec.specs.declared.Surface.the-variants.{Face, Sphere, Extruded, Rotated}
 use Rattle.solid_spec.specs.Grid.{grid}
-use Rattle.solid_spec.specs.ParamBox.{three, face, paramBox}
+use Rattle.solid_spec.specs.ParamBox.{along, paramBox}
 use Rattle.solid_spec.specs.Coords.{cylindricalToCartesian}
 use Rattle.solid_spec.specs.Sphere.{spherePoint}
 use Rattle.solid_spec.specs.Cylinder.{frame1, frame2, tube}
 use Rattle.solid_spec.specs.Boxes.{asIs}
 use Rattle.solid_spec.specs.Outline.{extrudedSides, turnedSides}
+use Rattle.surface_spec.specs.Faces.{numberedFace}
 use Rattle.surface_spec.specs.Surface.{mapped, lineOf, surfaceAt}
 use Rattle.solid_spec.proofs.OutlineBalanced.{extrudedSides-grid, turnedSides-grid}
 
 module _ (p : List Float) where
   -- a face of a parameter box
   pub face-surface : (lo hi : Vec3) (divs : ℕ → ℕ) (periodic : ℕ → Bool) (chart : Chart) (k : ℕ) (side : Bool) →
-      face lo hi divs periodic (mapped chart) k side
+      numberedFace lo hi divs periodic (mapped chart) k side
       ≡ grid (divs ((k + 1) % 3)) (divs ((k + 2) % 3)) (not side)
       (surfaceAt p (Face chart k (cond side (axis hi k) (axis lo k)) (lineOf lo hi divs periodic ((k + 1) % 3)) (lineOf lo hi divs periodic ((k + 2) % 3))))
-  unfolding face surfaceAt
+  unfolding numberedFace surfaceAt
   face-surface lo hi divs periodic chart k side = refl
 
   -- a sphere
@@ -51,7 +52,7 @@ module _ (p : List Float) where
 -- the maps of the cylinder and of the boxes are charts
 pub tube-chart : (a d : Vec3) (len r0 r1 : Float) (segments : ℕ) →
     tube a d len r0 r1 segments
-    ≡ paramBox (new (maximum r0 plusZero) plusZero plusZero) (new r1 tau len) (three 1 (max segments 3) 1) (three false true false) (mapped (Around a d (frame1 d) (frame2 d)))
+    ≡ paramBox (along (maximum r0 plusZero) r1 1 false) (along plusZero tau (max segments 3) true) (along plusZero len 1 false) (mapped (Around a d (frame1 d) (frame2 d)))
 unfolding tube mapped
 tube-chart a d len r0 r1 segments = refl
 

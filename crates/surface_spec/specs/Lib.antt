@@ -1,2 +1,3 @@
 -- What the contracts of the surfaces cite.
+pub mod Faces
 pub mod Surface

@@ -12,12 +12,13 @@ use Rattle.surface_spec.specs.declared.Chart.{Chart}
 use Rattle.surface_spec.specs.declared.Chart.the-variants.{Cartesian, Cylindrical, Around}
 use Rattle.surface_spec.specs.declared.Surface.{Surface}
 use Rattle.surface_spec.specs.declared.Surface.the-variants.{Face, Sphere, Extruded, Rotated}
-use Rattle.solid_spec.specs.ParamBox.{coord, facePoint}
+use Rattle.solid_spec.specs.ParamBox.{coord}
 use Rattle.solid_spec.specs.Coords.{cylindricalToCartesian}
 use Rattle.solid_spec.specs.Cylinder.{aroundAxis}
 use Rattle.solid_spec.specs.Sphere.{spherePoint}
 use Rattle.solid_spec.specs.Boxes.{asIs}
 use Rattle.solid_spec.specs.Outline.{planePoint, height, angle, spun}
+use Rattle.surface_spec.specs.Faces.{facePoint}
 
 -- the maps that are handed to `Soup::param_box`
 unfoldable pub mapped : Chart → Vec3 → Vec3

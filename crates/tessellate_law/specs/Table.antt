@@ -11,7 +11,7 @@ use lib.Ieee.{Float, fin, binary64, add, sub, mul, div, neg, ofInt, ofBits, eq, 
 use Rattle.ieee.specs.Number.{minimum, maximum, absolute, ceiling, pi, tau}
 use Rattle.root.specs.Sqrt.{sqrt}
 use Rattle.math.specs.declared.Vec3.{Vec3}
-use Rattle.math.specs.Vec.{axis, withAxis, vSub, vMin, vMax, dot, cross, normSq, norm}
+use Rattle.math.specs.Vec.{vSub, vMin, vMax, dot, cross, normSq, norm}
 use Rattle.outline.specs.Corners.{point, same}
 use Rattle.outline.specs.Clean.{endsIn, pushed, gathered, stay, cleanPolygon}
 use Rattle.outline_ears.specs.Ears.{cross as turn, largest, scale, tolerance, inTriangle, blocks, any, blocked, ip, inx, earAt, crossAt, isEar, isFlat}
@@ -22,7 +22,7 @@ use Rattle.mesh_spec.specs.Mesh.{Mesh, noMesh, plusZeroV, samePoint, firstSight
 use Rattle.mesh_spec.specs.Measures.{triangleSoup, sumOf, volumeTerm, areaTerm, signedVolume, area}
 use Rattle.mesh_balance_spec.specs.Count.{EdgesBalance}
 use Rattle.solid_spec.specs.Grid.{grid}
-use Rattle.solid_spec.specs.ParamBox.{coord, facePoint, face, faces, paramBox}
+use Rattle.solid_spec.specs.ParamBox.{coord, face, faces, paramBox}
 use Rattle.solid_spec.specs.Sphere.{sphere, sphereSoup}
 use Rattle.shape.specs.Arc.{countedSpan, arcShare, arcSegments}
 use Rattle.solid_spec.specs.Boxes.{boxShape}
@@ -133,7 +133,7 @@ pub record Figures : Type 0 where
 
 unfoldable meshes : Job → Mesh
 unfolding finalMesh placed weldedMesh jobParts partsOf solidMesh isRotPoly fromParts appendParts append fromSoup weldSoup weldTriangle withPoint firstSight samePoint plusZeroV
-    shapeCs effectiveCs cylindrical boxShape paramBox faces face grid facePoint withAxis coord axis vMin vMax minimum maximum sphereSoup sphere
+    shapeCs effectiveCs cylindrical boxShape paramBox faces face grid coord vMin vMax minimum maximum sphereSoup sphere
     isNan lt le eq add sub mul div ofInt ofBits
 meshes = finalMesh
 

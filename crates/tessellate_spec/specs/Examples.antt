@@ -8,7 +8,7 @@ use lib.ListN.{take, drop, replicate}
 use lib.Ieee.{Float, nan, binary64, add, sub, mul, div, neg, ofInt, ofBits, eq, ne, lt, le, isNan}
 use Rattle.ieee.specs.Number.{minimum, maximum, absolute}
 use Rattle.math.specs.declared.Vec3.{Vec3}
-use Rattle.math.specs.Vec.{new, axis, withAxis, vMin, vMax, vFinite}
+use Rattle.math.specs.Vec.{new, vMin, vMax, vFinite}
 use Rattle.math_matrix.specs.Mat.{fromRows, identity, scaling, timesRows, productRow, product, along, overW, transformPoint, detRows, determinant}
 use Rattle.refusal.specs.declared.Refusal.the-variants.{Accepted, NotFinite, AngleTooLarge, TooManySegments, BadList, PointNotFinite, ShortWork, NoRoom}
 use Rattle.transform.specs.declared.TransformOp.{TransformOp}
@@ -20,7 +20,7 @@ use Rattle.mesh_spec.specs.Mesh.{plusZeroV, samePoint, firstSight, withPoint, w
 use Rattle.mesh_spec.specs.Mesh.{fromParts}
 use Rattle.mesh_spec.specs.Edits.{moved, transform}
 use Rattle.solid_spec.specs.Grid.{grid}
-use Rattle.solid_spec.specs.ParamBox.{coord, facePoint, face, faces, paramBox}
+use Rattle.solid_spec.specs.ParamBox.{coord, face, faces, paramBox}
 use Rattle.solid_spec.specs.Boxes.{boxShape, multiBoxParts}
 use Rattle.shape.specs.declared.Shape.the-variants.{Box, MultiBox}
 use Rattle.shape.specs.declared.CoordSystem.{CoordSystem}
@@ -75,7 +75,7 @@ unfoldable computed : Job → Lent → Ending
 unfolding tessellateOf madeAs refusalOf orElse shortWork jobRefusal badSoup tooFewPlaces badVertex badPlaced placed acceptedAs refusedAs countedPlaces every partsFinite everyFinite
     drawingRefusal tooManySegments badItems badList numbersBad anglesBad itemsOf listOf shapeFinite vFinite pointWithin pointsWithin within1000 shapeWithin listWithin
     opsFinite opFinite opsAnglesWithin opAngleWithin finalMesh weldedMesh jobParts partsOf solidMesh isRotPoly fromParts appendParts append fromSoup weldSoup weldTriangle withPoint
-    firstSight samePoint plusZeroV shapeCs effectiveCs cylindrical boxShape paramBox faces face grid facePoint withAxis coord axis vMin vMax
+    firstSight samePoint plusZeroV shapeCs effectiveCs cylindrical boxShape paramBox faces face grid coord vMin vMax
     folded foldFrom opMatrix scaling identity product productRow timesRows fromRows transform moved flip transformPoint along overW determinant detRows
     minimum maximum absolute isNan lt le eq ne neg add sub mul div ofInt ofBits
 computed = tessellateOf

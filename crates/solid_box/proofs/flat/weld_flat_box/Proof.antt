@@ -5,7 +5,7 @@ use Prim.Native.Nat.{_-_, _≤_, zero-le}
 use Rattle.mesh_balance_spec.specs.Grid.{upto}
 use Rattle.weld.specs.Rep.{held, Runs}
 use Rattle.weld.specs.Runs.{runs-none}
-use Rattle.solid_spec.specs.ParamBox.{three}
+use Rattle.surface_spec.specs.Faces.{three}
 use Rattle.surface_spec.specs.Surface.{mapped}
 use Rattle.solid_box.specs.Box.{faceOf}
 use Rattle.solid_box.proofs.FaceRuns.{faces-more, box-runs}

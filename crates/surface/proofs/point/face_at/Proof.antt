@@ -1,7 +1,7 @@
 -- `surface::point::face_at` meets its contract. Assumes nothing.
 use denote.Ref.{now}
 use mathlib.Core.Path.{_∙_}
-use Rattle.solid_spec.specs.ParamBox.{facePoint}
+use Rattle.surface_spec.specs.Faces.{facePoint}
 use Rattle.surface.proofs.Surfaces.{face-plain, face-cylindrical, face-around, chart-tabled}
 use borrow.Author.Needs.{needs}
 use Rattle.surface.proofs.point.face_at.Statement.{statement}
