@@ -42,13 +42,13 @@ unfolding magnitudeOf
 whole-text b ey ew ek p = rw (← ey, ew, ← ek) p
 
 pub half-text : (b : ℕ) {y : Float} {k : ℕ} {l m : Line}
-    → y ≡ ofBits binary64 b → isWhole y ≡ false → isWhole (add binary64 y half) ≡ true → k ≡ ceiling (sub binary64 y half)
+    → y ≡ ofBits binary64 b → isWhole y ≡ false → isWhole (add binary64 y y) ≡ true → k ≡ ceiling (sub binary64 y half)
     → Puts (decimalOf k ++ ascii ".5") l m → Puts (magnitudeOf b) l m
 unfolding magnitudeOf
 half-text b ey ew eh ek p = rw (← ey, ew, eh, ← ek) p
 
 pub other-text : (b : ℕ) {y : Float} {l m : Line}
-    → y ≡ ofBits binary64 b → isWhole y ≡ false → isWhole (add binary64 y half) ≡ false → Puts (byBitsOf b) l m → Puts (magnitudeOf b) l m
+    → y ≡ ofBits binary64 b → isWhole y ≡ false → isWhole (add binary64 y y) ≡ false → Puts (byBitsOf b) l m → Puts (magnitudeOf b) l m
 unfolding magnitudeOf
 other-text b ey ew eh p = rw (← ey, ew, eh) p
 

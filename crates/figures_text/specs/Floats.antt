@@ -25,13 +25,13 @@ byBitsOf b = cond (isSmallPower b) (ascii "2^-" ++ decimalOf (1023 - b / 4503599
 abbrev pub half : Float
 half = ofBits binary64 0x3FE0000000000000
 
--- a float that is not below zero: a whole number in decimal; where y + 0.5, rounded once, is whole, the ceiling of y - 0.5 with .5; any other by its bits.
--- A whole number and a half meets the second, and so may a float within an ulp of one: 1.5000000000000002 prints 2.5. It is meant for the values of the
--- figures, which are exact. 2^-1 prints 0.5, and the powers below 2^-1022 print by their bits.
+-- a float y that is not below zero: a whole number below 10^15 in decimal; a whole number and a half, of which y + y is whole and below 10^15, by the whole
+-- number y - 0.5 with .5; any other by its bits. y + y is exact, and so is y - 0.5 of a half. 2^-1 prints 0.5, and the powers below 2^-1022 print by their
+-- bits.
 unfoldable pub magnitudeOf : ℕ → List ℕ
 magnitudeOf b =
     cond (isWhole (ofBits binary64 b)) (decimalOf (ceiling (ofBits binary64 b)))
-    (cond (isWhole (add binary64 (ofBits binary64 b) half)) (decimalOf (ceiling (sub binary64 (ofBits binary64 b) half)) ++ ascii ".5")
+    (cond (isWhole (add binary64 (ofBits binary64 b) (ofBits binary64 b))) (decimalOf (ceiling (sub binary64 (ofBits binary64 b) half)) ++ ascii ".5")
     (byBitsOf b))
 
 -- a float by its bits: a minus sign where the sign bit is set, and the magnitude

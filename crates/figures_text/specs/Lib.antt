@@ -2,3 +2,4 @@
 pub mod Counts
 pub mod Floats
 pub mod Lists
+pub mod Examples

@@ -1,6 +1,4 @@
 // Floats: whole numbers and halves in decimal, 2^-k for k from 2 to 1,022 as such, any other by its bits; 2^-1 is 0.5.
-// A half is told by y + 0.5, rounded once, being whole. So a float within an ulp of a half may print as one: 1.5000000000000002 prints 2.5.
-// This is meant for the values of the figures, which are exact.
 ghost use mathlib.Core.Path.{_≡_};
 ghost use lib.Ieee.{binary64, toBits};
 ghost use Rattle.figures_text.specs.Floats.{isWhole, isSmallPower, byBitsOf, magnitudeOf, floatBitsOf};
@@ -47,7 +45,8 @@ fn put_magnitude(out: &mut [u8], at: usize, b: u64) -> usize
     if is_whole(y) {
         return put_decimal(out, at, ieee::ceil_to_usize(y) as u64);
     }
-    if is_whole(y + 0.5) {
+    // a half: twice it is whole, and y + y is exact
+    if is_whole(y + y) {
         let to = put_decimal(out, at, ieee::ceil_to_usize(y - 0.5) as u64);
         return put(out, to, b".5");
     }
