@@ -4,8 +4,8 @@ use mathlib.Core.List.{List}
 use Prim.Native.Nat.{ℕ}
 use lib.Ieee.{Float}
 use Rattle.refusal.specs.Number.{numberOf}
-use Rattle.mesh.specs.declared.Edited.{Edited}
-use Rattle.mesh.specs.Outcome.{EditOutcome, GivesEdit}
+use Rattle.mesh_edit_law.specs.declared.Edited.{Edited}
+use Rattle.mesh_edit_law.specs.Outcome.{EditOutcome, GivesEdit}
 use Rattle.mesh_made.specs.declared.Made.{Made}
 use Rattle.mesh_made.specs.Made.{Ending, GivesMade}
 use Rattle.c_solids.specs.Answers.{Tells, Leaves}

@@ -14,7 +14,7 @@ use Rattle.shape.specs.declared.Shape.{Shape}
 use Rattle.shape.specs.declared.OwnSystem.the-variants.{Inherited}
 use Rattle.shape.specs.declared.CoordSystem.{CoordSystem}
 use Rattle.mesh_check.specs.State.{recordOf}
-use Rattle.mesh.specs.Outcome.{EditOutcome}
+use Rattle.mesh_edit_law.specs.Outcome.{EditOutcome}
 use Rattle.mesh_made.specs.Made.{Lent, Ending}
 use Rattle.tessellate_spec.specs.Outcome.{job, tessellateOf}
 

@@ -3,7 +3,7 @@ ghost use mathlib.Core.Path.{_≡_};
 ghost use mathlib.Core.Bool.{false};
 ghost use Rattle.mesh_check.specs.State.{recordOf, state};
 ghost use Rattle.mesh_measures.specs.Measures.{areaOf, signedVolumeOf};
-ghost use Rattle.mesh.specs.Edits.{appendOf, flipOf, transformOf};
+ghost use Rattle.mesh_edit_law.specs.Edits.{appendOf, flipOf, transformOf};
 ghost use Rattle.c_solids.specs.Answers.{Leaves, at, turnThenMove};
 use math::Vec3;
 use transform::TransformOp;

@@ -1,9 +1,9 @@
 // The edits of a mesh.
 ghost use Rattle.mesh_check.specs.State.{state};
-ghost use Rattle.mesh.specs.Outcome.{GivesEdit};
-ghost use Rattle.mesh.specs.Edits.{appendOf, flipOf, transformOf};
-use crate::Edited;
+ghost use Rattle.mesh_edit_law.specs.Outcome.{GivesEdit};
+ghost use Rattle.mesh_edit_law.specs.Edits.{appendOf, flipOf, transformOf};
 use mesh_check::TriMesh;
+use mesh_edit_law::Edited;
 use transform::TransformOp;
 
 // Appends the other mesh, which lies in other slices: its vertices follow, and its numbers go up by the vertex count.

@@ -6,16 +6,10 @@ pub use edit::append;
 pub use edit::flip;
 pub use edit::transform;
 pub use mesh_check::TriMesh;
+pub use mesh_edit_law::Edited;
 pub use mesh_measures::Boxed;
 pub use mesh_measures::Measured;
 pub use mesh_measures::area;
 pub use mesh_measures::bounding_box;
 pub use mesh_measures::enclosed_volume;
 pub use mesh_measures::signed_volume;
-use refusal::Refusal;
-
-// What an edit answers: refused or accepted, and the counts after it.
-pub struct Edited {
-    pub refusal: Refusal,
-    pub mesh: TriMesh,
-}

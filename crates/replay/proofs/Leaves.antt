@@ -5,8 +5,8 @@ use Prim.Native.Nat.{ℕ}
 use lib.Ieee.{Float}
 use Rattle.mesh_check.specs.declared.TriMesh.{TriMesh}
 use Rattle.mesh_check.specs.State.{state}
-use Rattle.mesh.specs.declared.Edited.{Edited}
-use Rattle.mesh.specs.Outcome.{EditOutcome, GivesEdit}
+use Rattle.mesh_edit_law.specs.declared.Edited.{Edited}
+use Rattle.mesh_edit_law.specs.Outcome.{EditOutcome, GivesEdit}
 use Rattle.outline_clip.specs.Clip.{ClipOutcome, clipOutline}
 
 pub leaves : {o : EditOutcome} {e : Edited} {m : TriMesh} {vs : List Float} {ts : List ℕ} → GivesEdit o e vs ts → m ≡ e .mesh → state m vs ts ≡ o .state

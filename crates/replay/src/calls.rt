@@ -2,7 +2,7 @@
 ghost use mathlib.Core.Path.{_≡_};
 ghost use lib.ListN.{length};
 ghost use Rattle.mesh_check.specs.State.{state};
-ghost use Rattle.mesh.specs.Edits.{appendOf, flipOf, transformOf};
+ghost use Rattle.mesh_edit_law.specs.Edits.{appendOf, flipOf, transformOf};
 ghost use Rattle.outline_clip.specs.Clip.{clipOutline};
 ghost use Rattle.replay_calls.specs.Sessions.{claimed};
 use crate::loading::load_floats;

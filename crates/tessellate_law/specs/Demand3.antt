@@ -20,7 +20,7 @@ use Rattle.solid_spec.specs.Grid.{Soup}
 use Rattle.shape.specs.declared.Shape.{Shape}
 use Rattle.shape.specs.Drawing.{cylindrical, shapeCs}
 use Rattle.mesh_check.specs.State.{meshOf}
-use Rattle.mesh.specs.Lists.{Call, after, AllBring, KeptByLists, kept-by-lists}
+use Rattle.mesh_edit_law.specs.Lists.{Call, after, AllBring, KeptByLists, kept-by-lists}
 use Rattle.mesh_made.specs.Made.{Lent}
 use Rattle.shape.specs.Rotated.{isRotPoly}
 use Rattle.solid_spec.specs.Solid.{outward, outwardIf, solidMesh}

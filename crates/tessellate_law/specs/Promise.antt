@@ -6,7 +6,7 @@ use lib.Ieee.{Float}
 use Rattle.refusal.specs.declared.Refusal.the-variants.{Accepted}
 use Rattle.mesh_spec.specs.Closed.{Closed, Proper, NoneTwice, AllThere}
 use Rattle.mesh_check.specs.State.{State, state, meshOf}
-use Rattle.mesh.specs.Lists.{Call, after, AllBring}
+use Rattle.mesh_edit_law.specs.Lists.{Call, after, AllBring}
 use Rattle.mesh_made.specs.declared.Made.{Made}
 use Rattle.mesh_made.specs.Made.{Lent, GivesMade}
 use Rattle.mesh_made.specs.MadeLaws.{left-as}

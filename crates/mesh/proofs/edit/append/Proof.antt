@@ -10,9 +10,9 @@ use Rattle.mesh_spec.specs.Mesh.{append}
 use Rattle.refusal.specs.Accepted.{isAccepted}
 use Rattle.mesh_check.specs.State.{state, meshOf, stored}
 use Rattle.mesh_refusals.specs.Append.{appendRefusal}
-use Rattle.mesh.specs.Edits.{appendOf}
+use Rattle.mesh_edit_law.specs.Edits.{appendOf}
 use Rattle.mesh_check.proofs.Stored.{stored-append}
-use Rattle.mesh.proofs.Given.{gives-kept, gives-done}
+use Rattle.mesh_edit_law.proofs.Given.{gives-kept, gives-done}
 use Rattle.mesh.proofs.Accepted.{appends}
 use borrow.Author.Needs.{needs}
 use native.Mathlib.Omega.{arith}

@@ -7,10 +7,10 @@ use Rattle.mesh_balance_spec.specs.Soup.{flip as flipTri}
 use Rattle.mesh_spec.specs.Mesh.{flip}
 use Rattle.refusal.specs.Accepted.{isAccepted}
 use Rattle.mesh_check.specs.State.{state, meshOf, stored, checkOf}
-use Rattle.mesh.specs.Edits.{flipOf}
+use Rattle.mesh_edit_law.specs.Edits.{flipOf}
 use Rattle.mesh_triples.specs.Triples.{eachTo}
 use Rattle.mesh_check.proofs.Stored.{stored-flip}
-use Rattle.mesh.proofs.Given.{gives-kept, gives-done}
+use Rattle.mesh_edit_law.proofs.Given.{gives-kept, gives-done}
 use Rattle.mesh_check.proofs.Sound.{check-sound}
 use borrow.Author.Needs.{needs}
 use native.Mathlib.Omega.{arith}

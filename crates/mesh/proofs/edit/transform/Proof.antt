@@ -9,8 +9,8 @@ use Rattle.mesh_spec.specs.Edits.{transform}
 use Rattle.refusal.specs.Accepted.{isAccepted}
 use Rattle.mesh_check.specs.State.{State, state, meshOf, stored}
 use Rattle.mesh_refusals.specs.Transform.{transformed, transformRefusal}
-use Rattle.mesh.specs.Edits.{transformOf}
-use Rattle.mesh.proofs.Given.{gives-kept, gives-done}
+use Rattle.mesh_edit_law.specs.Edits.{transformOf}
+use Rattle.mesh_edit_law.proofs.Given.{gives-kept, gives-done}
 use Rattle.mesh.proofs.Accepted.{transform-sound, transform-finite}
 use borrow.Author.Needs.{needs}
 use Rattle.mesh.proofs.edit.transform.Statement.{statement}

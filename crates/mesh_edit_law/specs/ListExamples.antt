@@ -17,9 +17,9 @@ use Rattle.refusal.specs.declared.Refusal.the-variants.{Accepted, NoRoom}
 use Rattle.refusal.specs.Number.{numberOf}
 use Rattle.mesh_check.specs.State.{recordOf, State, state, meshOf, stored, badMesh, notFinite, tooFewPlaces, checkOf}
 use Rattle.mesh_refusals.specs.Append.{appendRefusal}
-use Rattle.mesh.specs.Outcome.{edited}
-use Rattle.mesh.specs.Edits.{appendOf, flipOf}
-use Rattle.mesh.specs.Lists.{Call, Append, Flip, after, Brings, AllBring, kept-by-lists}
+use Rattle.mesh_edit_law.specs.Outcome.{edited}
+use Rattle.mesh_edit_law.specs.Edits.{appendOf, flipOf}
+use Rattle.mesh_edit_law.specs.Lists.{Call, Append, Flip, after, Brings, AllBring, kept-by-lists}
 
 -- places for four vertices and four triangles, none of them counted
 abbrev start : State

@@ -8,7 +8,7 @@ use Rattle.refusal.specs.declared.Refusal.{Refusal}
 use Rattle.refusal.specs.Number.{numberOf}
 use Rattle.refusal.specs.Accepted.{isAccepted}
 use Rattle.mesh_check.specs.State.{State}
-use Rattle.mesh.specs.declared.Edited.{Edited}
+use Rattle.mesh_edit_law.specs.declared.Edited.{Edited}
 
 -- what `append`, `flip` or `transform` answers, and the state that it leaves
 pub record EditOutcome : Type 0 where

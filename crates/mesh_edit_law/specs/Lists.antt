@@ -22,11 +22,11 @@ use Rattle.refusal.specs.declared.Refusal.the-variants.{Accepted}
 use Rattle.refusal.specs.Accepted.{isAccepted}
 use Rattle.refusal.specs.Laws.{accepted-is}
 use Rattle.mesh_check.specs.State.{State, meshOf, stored, checkOf}
-use Rattle.mesh.specs.Outcome.{EditOutcome, edited}
+use Rattle.mesh_edit_law.specs.Outcome.{EditOutcome, edited}
 use Rattle.mesh_check.specs.StateLaws.{mesh-stored}
 use Rattle.mesh_refusals.specs.Append.{appendRefusal}
 use Rattle.mesh_refusals.specs.Transform.{transformed, transformRefusal}
-use Rattle.mesh.specs.Edits.{appendOf, flipOf, transformOf}
+use Rattle.mesh_edit_law.specs.Edits.{appendOf, flipOf, transformOf}
 
 -- ---- the statement
 -- one call: the mesh to append, or the operations, their count and the degrees mark

@@ -8,7 +8,7 @@ use Rattle.mesh_spec.specs.Mesh.{append, flip}
 use Rattle.mesh_check.specs.State.{State, meshOf, stored, checkOf}
 use Rattle.mesh_refusals.specs.Append.{appendRefusal}
 use Rattle.mesh_refusals.specs.Transform.{transformed, transformRefusal}
-use Rattle.mesh.specs.Outcome.{EditOutcome, edited}
+use Rattle.mesh_edit_law.specs.Outcome.{EditOutcome, edited}
 
 -- `append` of the second mesh to the first
 unfoldable pub appendOf : State → State → EditOutcome

@@ -8,7 +8,7 @@ use Rattle.refusal.specs.declared.Refusal.{Refusal}
 use Rattle.refusal.specs.Number.{numberOf}
 use Rattle.refusal.specs.Accepted.{isAccepted}
 use Rattle.mesh_check.specs.State.{State}
-use Rattle.mesh.specs.Outcome.{edited, GivesEdit}
+use Rattle.mesh_edit_law.specs.Outcome.{edited, GivesEdit}
 
 module _ (q : Refusal) (s t : State) (r : Refusal) (e : r ≡ q) where
   kept : isAccepted r ≡ false → edited q s t .state ≡ s

@@ -1,0 +1,2 @@
+-- What the proofs of the edits use.
+pub mod Given

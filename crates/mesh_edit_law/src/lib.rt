@@ -1,0 +1,9 @@
+// What append, flip and transform leave, as definitions, and the theorem about lists of these calls: in specs/. No functions.
+use mesh_check::TriMesh;
+use refusal::Refusal;
+
+// What an edit answers: refused or accepted, and the counts after it.
+pub struct Edited {
+    pub refusal: Refusal,
+    pub mesh: TriMesh,
+}
