@@ -1,4 +1,4 @@
--- The definitions that the contracts of `math` cite, and laws of them.
+-- The definitions that the contracts of `math`, `math_norm` and `math_box` cite, and laws of them.
 pub mod Vec
 pub mod Box
 pub mod Laws

@@ -1,21 +1,13 @@
-// Points and directions, and boxes along the axes: src/math.rs.
-mod bbox;
+// Points and directions, and the type of boxes along the axes: src/math.rs.
 mod vec;
 
-pub use bbox::empty_box;
-pub use bbox::include;
 pub use vec::add;
 pub use vec::axis;
-pub use vec::cross;
 pub use vec::div;
-pub use vec::dot;
 pub use vec::is_finite;
 pub use vec::max;
 pub use vec::min;
 pub use vec::mul;
-pub use vec::norm;
-pub use vec::norm_sq;
-pub use vec::normalized;
 pub use vec::sub;
 pub use vec::unit;
 pub use vec::with_axis;

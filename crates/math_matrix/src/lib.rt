@@ -119,5 +119,5 @@ pub fn rotation(axis: Vec3, angle: Radians) -> Mat4
     ensures { λ r. ⌜ r ≡ Mat.rotation axis angle ⌝ }
 {
     let p = trig::sin_cos(angle.0);
-    turn(math::normalized(axis), p.sin, p.cos)
+    turn(math_norm::normalized(axis), p.sin, p.cos)
 }

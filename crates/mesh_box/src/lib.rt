@@ -15,10 +15,10 @@ pub fn box_of(vertices: &[f64], n: usize) -> BoundingBox
     requires { ⌜ 3 * n ≤ length (now vertices) ⌝ }
     ensures { λ r. ⌜ r ≡ including emptyBox (points (take (3 * n) (now (vertices .entry)))) ⌝ }
 {
-    let mut b = math::empty_box();
+    let mut b = math_box::empty_box();
     let mut i = 0;
     while i < n {
-        b = math::include(b, vertex(vertices, i));
+        b = math_box::include(b, vertex(vertices, i));
         i += 1;
     }
     b

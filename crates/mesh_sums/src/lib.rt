@@ -27,7 +27,7 @@ fn volume_term(vertices: &[f64], triangles: &[u32], i: usize) -> f64
     let a = corner(vertices, triangles, at);
     let b = corner(vertices, triangles, at + 1);
     let c = corner(vertices, triangles, at + 2);
-    math::dot(a, math::cross(b, c))
+    math_norm::dot(a, math_norm::cross(b, c))
 }
 
 // The area of triangle i. The norm is written out: a call of norm would hand the vector over in memory.
@@ -39,7 +39,7 @@ fn area_term(vertices: &[f64], triangles: &[u32], i: usize) -> f64
     let a = corner(vertices, triangles, at);
     let b = corner(vertices, triangles, at + 1);
     let c = corner(vertices, triangles, at + 2);
-    root::sqrt(math::norm_sq(math::cross(math::sub(b, a), math::sub(c, a)))) / 2.0
+    root::sqrt(math_norm::norm_sq(math_norm::cross(math::sub(b, a), math::sub(c, a)))) / 2.0
 }
 
 // The sum of the volume terms of the first k triangles.

@@ -80,7 +80,7 @@ pub fn weld_cylinder(
         (held k (now (vertices .exit)) (now (triangles .exit)) (now (work .exit))) ⌝ }
 {
     let v = math::sub(b, a);
-    let len = math::norm(v);
+    let len = math_norm::norm(v);
     if len == 0.0 {
         return w;
     }

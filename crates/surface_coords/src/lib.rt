@@ -48,14 +48,14 @@ fn beside(d: Vec3) -> Vec3
 pub fn frame1(d: Vec3) -> Vec3
     ensures { λ r. ⌜ r ≡ Cylinder.frame1 d ⌝ }
 {
-    math::normalized(math::cross(d, beside(d)))
+    math_norm::normalized(math_norm::cross(d, beside(d)))
 }
 
 // The second vector of frame.
 pub fn frame2(d: Vec3) -> Vec3
     ensures { λ r. ⌜ r ≡ Cylinder.frame2 d ⌝ }
 {
-    math::cross(d, frame1(d))
+    math_norm::cross(d, frame1(d))
 }
 
 // e1 * cs + e2 * sn.

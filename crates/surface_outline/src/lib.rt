@@ -59,7 +59,7 @@ fn radial(a: usize, q: usize, t: SinCos) -> Vec3
     ensures { λ r. ⌜ r ≡ Pieces.radial a q t ⌝ }
 {
     let u = math::unit(q);
-    let w = math::cross(math::unit(a), u);
+    let w = math_norm::cross(math::unit(a), u);
     math::add(math::mul(u, t.cos), math::mul(w, t.sin))
 }
 

@@ -1,9 +1,8 @@
 // Boxes along the axes: `impl BoundingBox` of src/math.rs.
 ghost use mathlib.Core.Path.{_≡_};
 ghost use Rattle.math.specs.Box as Box;
-use crate::BoundingBox;
-use crate::Vec3;
-use crate::vec;
+use math::BoundingBox;
+use math::Vec3;
 
 pub fn empty_box() -> BoundingBox
     ensures { λ r. ⌜ r ≡ Box.emptyBox ⌝ }
@@ -29,7 +28,7 @@ pub fn include(b: BoundingBox, p: Vec3) -> BoundingBox
     let low = b.min;
     let high = b.max;
     BoundingBox {
-        min: vec::min(low, p),
-        max: vec::max(high, p),
+        min: math::min(low, p),
+        max: math::max(high, p),
     }
 }

@@ -1,8 +1,8 @@
--- `math::vec::norm_sq` meets its contract. Assumes nothing.
+-- `math_norm::norm_sq` meets its contract. Assumes nothing.
 use borrow.Author.Needs.{needs}
 use Rattle.math.specs.Vec.{normSq}
-use Rattle.math.proofs.vec.norm_sq.Statement.{statement}
-use Rattle.math.proofs.vec.norm_sq.Tie as tie
+use Rattle.math_norm.proofs.norm_sq.Statement.{statement}
+use Rattle.math_norm.proofs.norm_sq.Tie as tie
 
 dot-requires : tie.Need-dot-requires
 dot-requires c κs = search needs

@@ -1,11 +1,11 @@
--- `math::vec::norm` meets its contract. Assumes nothing.
+-- `math_norm::norm` meets its contract. Assumes nothing.
 use mathlib.Core.Path.{_∙_}
 use lib.Ieee.{binary64}
 use Rattle.root.specs.Sqrt.{sqrt}
 use borrow.Author.Needs.{needs}
 use Rattle.math.specs.Vec.{norm}
-use Rattle.math.proofs.vec.norm.Statement.{statement}
-use Rattle.math.proofs.vec.norm.Tie as tie
+use Rattle.math_norm.proofs.norm.Statement.{statement}
+use Rattle.math_norm.proofs.norm.Tie as tie
 
 norm-sq-requires : tie.Need-norm-sq-requires
 norm-sq-requires c κs = search needs

@@ -1,8 +1,8 @@
--- `math::bbox::include` meets its contract. Assumes nothing.
+-- `math_box::include` meets its contract. Assumes nothing.
 use borrow.Author.Needs.{needs}
 use Rattle.math.specs.Box.{include}
-use Rattle.math.proofs.bbox.include.Statement.{statement}
-use Rattle.math.proofs.bbox.include.Tie as tie
+use Rattle.math_box.proofs.include.Statement.{statement}
+use Rattle.math_box.proofs.include.Tie as tie
 
 min-requires : tie.Need-min-requires
 min-requires c κs = search needs

@@ -1,13 +1,13 @@
--- `math::vec::normalized` meets its contract. Assumes nothing.
+-- `math_norm::normalized` meets its contract. Assumes nothing.
 use borrow.Author.Needs.{needs}
 use mathlib.Core.Path.{_≡_}
 use mathlib.Core.Bool.{true, false}
 use lib.Ieee.{Float, lt, ofBits}
 use Rattle.ieee.specs.Same.{plusZero}
 use Rattle.math.specs.declared.Vec3.{Vec3}
 use Rattle.math.specs.Vec.{norm, normalized, vDiv, zeroV}
-use Rattle.math.proofs.vec.normalized.Statement.{statement}
-use Rattle.math.proofs.vec.normalized.Tie as tie
+use Rattle.math_norm.proofs.normalized.Statement.{statement}
+use Rattle.math_norm.proofs.normalized.Tie as tie
 
 scaled : (a : Vec3) (n : Float) (r : Vec3) → n ≡ norm a → lt plusZero n ≡ true → r ≡ vDiv a n → r ≡ normalized a
 unfolding normalized

@@ -1,9 +1,9 @@
--- `math::bbox::empty_box` meets its contract. Assumes nothing.
+-- `math_box::empty_box` meets its contract. Assumes nothing.
 use mathlib.Core.Path.{refl}
 use lib.Ieee.{ofBits, div, neg}
 use Rattle.math.specs.Box.{emptyBox}
-use Rattle.math.proofs.bbox.empty_box.Statement.{statement}
-use Rattle.math.proofs.bbox.empty_box.Tie as tie
+use Rattle.math_box.proofs.empty_box.Statement.{statement}
+use Rattle.math_box.proofs.empty_box.Tie as tie
 
 returns : tie.Need-returns
 unfolding emptyBox ofBits div neg
