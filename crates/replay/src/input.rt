@@ -20,7 +20,7 @@ fn floats_block(out: &mut [f64], buf: &mut [u8]) -> usize
     if !fill(&mut buf[..8 * n]) {
         return 0;
     }
-    slice_bytes::get_floats(buf, &mut out[..n]);
+    slice_byte_lists::get_floats(buf, &mut out[..n]);
     n
 }
 
@@ -46,7 +46,7 @@ fn words_block(out: &mut [u32], buf: &mut [u8]) -> usize
     if !fill(&mut buf[..4 * n]) {
         return 0;
     }
-    slice_bytes::get_words(buf, &mut out[..n]);
+    slice_byte_lists::get_words(buf, &mut out[..n]);
     n
 }
 

@@ -32,7 +32,7 @@ fn floats_block(v: &[f64], buf: &mut [u8]) -> usize
     ensures { λ r. ⌜ r ≤ length (now (v .entry)) ⌝ }
 {
     let n = least(v.len(), buf.len() / 8);
-    slice_bytes::put_floats(&v[..n], buf);
+    slice_byte_lists::put_floats(&v[..n], buf);
     if !io::write_all(1, &buf[..8 * n]) {
         return 0;
     }
@@ -57,7 +57,7 @@ fn words_block(v: &[u32], buf: &mut [u8]) -> usize
     ensures { λ r. ⌜ r ≤ length (now (v .entry)) ⌝ }
 {
     let n = least(v.len(), buf.len() / 4);
-    slice_bytes::put_words(&v[..n], buf);
+    slice_byte_lists::put_words(&v[..n], buf);
     if !io::write_all(1, &buf[..4 * n]) {
         return 0;
     }

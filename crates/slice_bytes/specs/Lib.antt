@@ -1,3 +1,2 @@
 -- What the contracts of `slice_bytes` cite.
 pub mod Bytes
-pub mod Lists

@@ -2,11 +2,11 @@
 ghost use mathlib.Core.Path.{_≡_};
 ghost use Prim.Native.Nat.{_*_, _≤_};
 ghost use lib.ListN.{length};
-ghost use Rattle.slice_bytes.specs.Lists.{floatsOf, wordsOf, withFloats, withWords};
-use crate::bytes::put_word;
-use crate::bytes::word_at;
-use crate::floats::float_at;
-use crate::floats::put_float;
+ghost use Rattle.slice_byte_lists.specs.Lists.{floatsOf, wordsOf, withFloats, withWords};
+use slice_bytes::float_at;
+use slice_bytes::put_float;
+use slice_bytes::put_word;
+use slice_bytes::word_at;
 
 // Reads as many floats as out has.
 pub fn get_floats(b: &[u8], out: &mut [f64])

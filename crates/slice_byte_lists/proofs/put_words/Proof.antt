@@ -1,14 +1,14 @@
--- `slice_bytes::lists::put_words` meets its contract. Assumes nothing.
+-- `slice_byte_lists::put_words` meets its contract. Assumes nothing.
 use denote.Ref.{now}
 use mathlib.Core.Path.{_≡_, refl, sym, ap, _∙_}
 use native.Mathlib.Omega.{arith}
 use Prim.Native.Nat.{ℕ, _≤_, _-_}
 use lib.ListN.{length}
-use Rattle.slice_bytes.specs.Lists.{withWords}
-use Rattle.slice_bytes.proofs.Loops.{with-words-none, with-words-more, with-word-length}
+use Rattle.slice_byte_lists.specs.Lists.{withWords}
+use Rattle.slice_byte_lists.proofs.Loops.{with-words-none, with-words-more, with-word-length}
 use borrow.Author.Needs.{needs}
-use Rattle.slice_bytes.proofs.lists.put_words.Statement.{statement}
-use Rattle.slice_bytes.proofs.lists.put_words.Tie as tie
+use Rattle.slice_byte_lists.proofs.put_words.Statement.{statement}
+use Rattle.slice_byte_lists.proofs.put_words.Tie as tie
 
 abbrev Inv-loop : tie.InvT-loop
 Inv-loop v b₀ i₀ b i = (i ≤ length v) × (length b ≡ length b₀) × (b ≡ withWords i v b₀)

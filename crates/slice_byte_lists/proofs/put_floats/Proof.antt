@@ -1,14 +1,14 @@
--- `slice_bytes::lists::put_floats` meets its contract. Assumes nothing.
+-- `slice_byte_lists::put_floats` meets its contract. Assumes nothing.
 use denote.Ref.{now}
 use mathlib.Core.Path.{_≡_, refl, sym, ap, _∙_}
 use native.Mathlib.Omega.{arith}
 use Prim.Native.Nat.{ℕ, _≤_, _-_}
 use lib.ListN.{length}
-use Rattle.slice_bytes.specs.Lists.{withFloats}
-use Rattle.slice_bytes.proofs.Loops.{with-floats-none, with-floats-more, with-long-length}
+use Rattle.slice_byte_lists.specs.Lists.{withFloats}
+use Rattle.slice_byte_lists.proofs.Loops.{with-floats-none, with-floats-more, with-long-length}
 use borrow.Author.Needs.{needs}
-use Rattle.slice_bytes.proofs.lists.put_floats.Statement.{statement}
-use Rattle.slice_bytes.proofs.lists.put_floats.Tie as tie
+use Rattle.slice_byte_lists.proofs.put_floats.Statement.{statement}
+use Rattle.slice_byte_lists.proofs.put_floats.Tie as tie
 
 abbrev Inv-loop : tie.InvT-loop
 Inv-loop v b₀ i₀ b i = (i ≤ length v) × (length b ≡ length b₀) × (b ≡ withFloats i v b₀)

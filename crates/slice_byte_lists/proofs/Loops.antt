@@ -6,8 +6,8 @@ use native.Mathlib.Numerals.{add-one}
 use lib.ListN.{length, take, set, getD, length-set}
 use lib.Seq.{take-suc-set}
 use lib.Ieee.{Float, nan, binary64, toBits}
 use Rattle.slice_bytes.specs.Bytes.{wordAt, floatAt, withWord, withLong}
-use Rattle.slice_bytes.specs.Lists.{floatsOf, wordsOf, withFloats, withWords}
+use Rattle.slice_byte_lists.specs.Lists.{floatsOf, wordsOf, withFloats, withWords}
 
 pub floats-none : (b : List ℕ) (out : List Float) → take 0 out ≡ floatsOf 0 b
 unfolding floatsOf

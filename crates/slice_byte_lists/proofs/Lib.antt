@@ -1,0 +1,2 @@
+-- What the proofs of `slice_byte_lists` cite.
+mod Loops

@@ -1,0 +1,2 @@
+-- What the contracts of `slice_byte_lists` cite.
+pub mod Lists

@@ -1,2 +1,0 @@
--- What the proofs of the lists of `slice_bytes` cite.
-mod Loops
