@@ -5,7 +5,7 @@ use Prim.Native.Nat.{ℕ}
 use lib.Dec.{eqb}
 use lib.ListN.{drop}
 use Rattle.replay_format.specs.declared.head.Head.{Head}
-use Rattle.slice_bytes.specs.Lists.{floatsOf}
+use Rattle.slice_byte_lists.specs.Lists.{floatsOf}
 use Rattle.shape.specs.declared.Shape.{Shape}
 use Rattle.shape_fields.specs.Fields as Fields
 use Rattle.shape.specs.declared.CoordSystem.{CoordSystem}

@@ -38,6 +38,6 @@ pub fn shape_of(h: Head, head: &[u8]) -> Shape
     ensures { λ r. ⌜ r ≡ shapeOf h (now (head .entry)) ⌝ }
 {
     let mut numbers = [0.0; 10];
-    slice_bytes::get_floats(&head[48..], &mut numbers);
+    slice_byte_lists::get_floats(&head[48..], &mut numbers);
     shape_fields::shape_of(h.shape, h.norm_dir, h.rot_axis_dir, &numbers)
 }

@@ -8,7 +8,7 @@ use native.Mathlib.Omega.{arith}
 use lib.ListN.{length, drop, length-drop}
 use lib.Seq.{take-all}
 use lib.Ieee.{Float}
-use Rattle.slice_bytes.specs.Lists.{floatsOf}
+use Rattle.slice_byte_lists.specs.Lists.{floatsOf}
 use Rattle.shape_fields.specs.Fields as Fields
 use Rattle.replay_head.specs.Shapes.{shapeOf}
 use Rattle.replay_head.proofs.shapes.shape_of.Statement.{statement}
