@@ -15,7 +15,6 @@ use Rattle.surface.specs.Turns.{Filled, Tabled}
 use Rattle.surface.proofs.Surfaces.{face-tabled}
 use Rattle.surface_spec.specs.declared.Line.{Line}
 use Rattle.surface_spec.specs.declared.Chart.{Chart}
-use Rattle.surface_spec.specs.declared.Chart.the-variants.{Cartesian, Cylindrical, Around}
 use Rattle.surface_spec.specs.declared.Surface.the-variants.{Face}
 use Rattle.solid_spec.specs.Grid.{Soup, grid}
 use Rattle.solid_spec.specs.ParamBox.{along, face, faces, paramBox}
@@ -25,7 +24,7 @@ use Rattle.surface_spec.proofs.SurfaceGrids.{face-surface}
 use Rattle.mesh_balance_spec.specs.Grid.{upto}
 use Rattle.mesh_balance_spec.specs.Buffer.{upto-more}
 use Rattle.surface_box.specs.Faces.{isHigh, hasFace}
-use Rattle.solid_box.specs.Box.{AxisTabled, BoxWithin, faceOf}
+use Rattle.solid_box.specs.Box.{BoxWithin, faceOf}
 
 few : (n k : ℕ) → n ≤ 1024 → three 1 n 1 k ≤ 1024
 few n zero h = omega arith
@@ -37,24 +36,17 @@ guessed n zero g a b = a
 guessed n (suc zero) g a b = b
 guessed n (suc (suc k)) g a b = a
 
--- a face reads the table of the middle axis
-axis-tabled : (line : ℕ → Line) (chart : Chart) (k : ℕ) (val : Float) (u v : Line) (tab : List Float) → k < 3 → u ≡ line ((k + 1) % 3) → v ≡ line ((k + 2) % 3)
-    → AxisTabled chart (line 1) tab → Tabled (Face chart k val u v) tab tab (u .n) (v .n)
-axis-tabled line Cartesian k val u v tab l p q w = tt
-axis-tabled line Cylindrical k val u v tab l p q w = face-tabled line Cylindrical k val u v tab l p q w
-axis-tabled line (Around a d e1 e2) k val u v tab l p q w = face-tabled line (Around a d e1 e2) k val u v tab l p q w
-
 -- the table of a line that is the middle axis
-pub line-tabled : (l m : Line) (n : ℕ) (tab : List Float) → l ≡ m → m .n ≡ n → Filled (OnLine l) n tab → Filled (OnLine m) (m .n) tab
-line-tabled l m n tab e d w = subst (λ (k : ℕ). Filled (OnLine m) k tab) (sym d) (subst (λ (x : Line). Filled (OnLine x) n tab) e w)
+pub line-tabled : (l m : Line) (n : ℕ) (tab : List Float) → l ≡ m → Filled (OnLine l) n tab → Filled (OnLine m) n tab
+line-tabled l m n tab e w = subst (λ (x : Line). Filled (OnLine x) n tab) e w
 
 -- places for guesses stay as many
-pub guesses-kept : {lo hi : Vec3} {n : ℕ} {turns : Bool} {chart : Chart} {tab : List Float} {g h : ℕ} → g ≡ h → BoxWithin lo hi n turns chart tab h → BoxWithin lo hi n turns chart tab g
-guesses-kept {lo} {hi} {n} {turns} {chart} {tab} e B = subst (BoxWithin lo hi n turns chart tab) (sym e) B
+pub guesses-kept : {lo hi : Vec3} {n : ℕ} {turns : Bool} {tab : List Float} {g h : ℕ} → g ≡ h → BoxWithin lo hi n turns tab h → BoxWithin lo hi n turns tab g
+guesses-kept {lo} {hi} {n} {turns} {tab} e B = subst (BoxWithin lo hi n turns tab) (sym e) B
 
 module _ (lo hi : Vec3) (n : ℕ) (turns : Bool) (chart : Chart) where
   -- what `weld_grid` asks of a face
-  pub face-asks : (k : ℕ) (val : Float) (u v : Line) (tab : List Float) (guesses : ℕ) → k < 3 → BoxWithin lo hi n turns chart tab guesses
+  pub face-asks : (k : ℕ) (val : Float) (u v : Line) (tab : List Float) (guesses : ℕ) → k < 3 → BoxWithin lo hi n turns tab guesses
       → u ≡ lineOf lo hi (three 1 n 1) (three false turns false) ((k + 1) % 3) → v ≡ lineOf lo hi (three 1 n 1) (three false turns false) ((k + 2) % 3)
       → (u .n ≤ 1024) × (v .n ≤ 1024) × (v .n < guesses) × FaceWithin k u v (u .n) (v .n) × Tabled (Face chart k val u v) tab tab (u .n) (v .n)
   face-asks k val u v tab guesses l B p q =
@@ -65,7 +57,7 @@ module _ (lo hi : Vec3) (n : ℕ) (turns : Bool) (chart : Chart) where
         b,
         g,
         record { axis = l; ufew = a; vfew = b; ulast = omega arith; vlast = omega arith },
-        axis-tabled (lineOf lo hi (three 1 n 1) (three false turns false)) chart k val u v tab l p q (B .tabled),
+        face-tabled (lineOf lo hi (three 1 n 1) (three false turns false)) chart k val u v tab l p q (B .tabled),
       )
 
   pub face-runs : (p : List Float) (k : ℕ) (side : Bool) (u v : Line) (val : Float) (h r : Held)

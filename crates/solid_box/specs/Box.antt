@@ -4,26 +4,23 @@ use mathlib.Core.List.{List, []}
 use Prim.Native.Nat.{ℕ, _/_, _≤_, _<_}
 use lib.Ieee.{Float}
 use Rattle.math.specs.declared.Vec3.{Vec3}
-use Rattle.surface_spec.specs.declared.Line.{Line}
-use Rattle.surface_spec.specs.declared.Chart.{Chart}
-use Rattle.surface_spec.specs.declared.Chart.the-variants.{Cartesian, Cylindrical, Around}
 use Rattle.solid_spec.specs.Grid.{Soup}
+use Rattle.solid_spec.specs.ParamBox.{along, paramBox}
 use Rattle.surface_spec.specs.Faces.{three, numberedFace}
 use Rattle.surface_spec.specs.Surface.{lineOf}
 use Rattle.surface.specs.declared.turns.Turns.the-variants.{OnLine}
 use Rattle.surface.specs.Turns.{Filled}
 use Rattle.surface_box.specs.Faces.{isHigh, hasFace}
 
--- the table of the middle axis, for a chart that takes it as an angle
-abbrev pub AxisTabled : Chart → Line → List Float → Type 0
-AxisTabled Cartesian l tab = Unit
-AxisTabled Cylindrical l tab = Filled (OnLine l) (l .n) tab
-AxisTabled (Around a d e1 e2) l tab = Filled (OnLine l) (l .n) tab
+-- `param_box(lo, hi, [1, n, 1], [false, turns, false], map)`: n parts on the middle axis and one on the others
+abbrev pub middleParted : Vec3 → Vec3 → ℕ → Bool → (Vec3 → Vec3) → Soup
+middleParted lo hi n turns map =
+    paramBox (along (lo .x) (hi .x) 1 false) (along (lo .y) (hi .y) n turns) (along (lo .z) (hi .z) 1 false) map
 
--- n parts on the middle axis, its table, and a place for a guess at each of a row's points
-pub record BoxWithin (lo hi : Vec3) (n : ℕ) (turns : Bool) (chart : Chart) (table : List Float) (guesses : ℕ) : Type 0 where
+-- n parts on the middle axis, an angle, its table of sines and cosines, and a place for a guess at each of a row's points
+pub record BoxWithin (lo hi : Vec3) (n : ℕ) (turns : Bool) (table : List Float) (guesses : ℕ) : Type 0 where
   pub few : n ≤ 1024
-  pub tabled : AxisTabled chart (lineOf lo hi (three 1 n 1) (three false turns false) 1) table
+  pub tabled : Filled (OnLine (lineOf lo hi (three 1 n 1) (three false turns false) 1)) n table
   pub one : 1 < guesses
   pub long : n < guesses
 

@@ -3,10 +3,9 @@ ghost use mathlib.Core.Bool.{false};
 ghost use Prim.Native.Nat.{_<_};
 ghost use lib.ListN.{length};
 ghost use Rattle.weld.specs.Rep.{held, Ready, Runs};
-ghost use Rattle.solid_spec.specs.ParamBox.{along, paramBox};
 ghost use Rattle.surface_spec.specs.Faces.{three};
 ghost use Rattle.surface_spec.specs.Surface.{mapped};
-ghost use Rattle.solid_box.specs.Box.{BoxWithin, faceOf};
+ghost use Rattle.solid_box.specs.Box.{middleParted, BoxWithin, faceOf};
 use math::Vec3;
 use surface_spec::Chart;
 use surface_spec::Surface;
@@ -28,7 +27,7 @@ fn weld_face(
     f: usize,
 ) -> Welder
     requires { ⌜ Ready (held w (now vertices) (now triangles) (now work)) ⌝ }
-    requires { ⌜ (f < 6) × BoxWithin lo hi n turns chart (now table) (length (now numbers)) ⌝ }
+    requires { ⌜ (f < 6) × BoxWithin lo hi n turns (now table) (length (now numbers)) ⌝ }
     ensures { λ r. ⌜ Runs (faceOf lo hi (three 1 n 1) (three false turns false) (mapped chart) f)
         (held w (now (vertices .entry)) (now (triangles .entry)) (now (work .entry)))
         (held r (now (vertices .exit)) (now (triangles .exit)) (now (work .exit))) ⌝ }
@@ -65,9 +64,8 @@ fn weld_face(
     )
 }
 
-// Soup::param_box with n parts on the middle axis, periodic where turns says so, and 1 part on the others. `table` has the sines and
-// cosines of the middle axis where the chart takes it as an angle; `numbers` is for guesses, as in weld_grid.
-pub fn weld_param_box(
+// The six faces. `table` has the sines and cosines of the middle axis; `numbers` is for guesses, as in weld_grid.
+pub fn weld_faces(
     vertices: &mut [f64],
     triangles: &mut [u32],
     work: &mut [u32],
@@ -81,9 +79,8 @@ pub fn weld_param_box(
     numbers: &mut [usize],
 ) -> Welder
     requires { ⌜ Ready (held w (now vertices) (now triangles) (now work)) ⌝ }
-    requires { ⌜ BoxWithin lo hi n turns chart (now table) (length (now numbers)) ⌝ }
-    ensures { λ r. ⌜ Runs
-        (paramBox (along (lo .x) (hi .x) 1 false) (along (lo .y) (hi .y) n turns) (along (lo .z) (hi .z) 1 false) (mapped chart))
+    requires { ⌜ BoxWithin lo hi n turns (now table) (length (now numbers)) ⌝ }
+    ensures { λ r. ⌜ Runs (middleParted lo hi n turns (mapped chart))
         (held w (now (vertices .entry)) (now (triangles .entry)) (now (work .entry)))
         (held r (now (vertices .exit)) (now (triangles .exit)) (now (work .exit))) ⌝ }
 {

@@ -3,10 +3,9 @@ ghost use mathlib.Core.Bool.{false};
 ghost use Prim.Native.Nat.{_<_};
 ghost use Rattle.weld.specs.Rep.{held, Ready, Runs};
 ghost use Rattle.surface_spec.specs.declared.Chart.the-variants.{Cartesian};
-ghost use Rattle.solid_spec.specs.ParamBox.{along, paramBox};
 ghost use Rattle.surface_spec.specs.Faces.{three};
 ghost use Rattle.surface_spec.specs.Surface.{mapped};
-ghost use Rattle.solid_box.specs.Box.{faceOf};
+ghost use Rattle.solid_box.specs.Box.{middleParted, faceOf};
 use math::Vec3;
 use weld::Welder;
 
@@ -58,8 +57,7 @@ pub fn weld_flat_box(
     hi: Vec3,
 ) -> Welder
     requires { ⌜ Ready (held w (now vertices) (now triangles) (now work)) ⌝ }
-    ensures { λ r. ⌜ Runs
-        (paramBox (along (lo .x) (hi .x) 1 false) (along (lo .y) (hi .y) 1 false) (along (lo .z) (hi .z) 1 false) (mapped Cartesian))
+    ensures { λ r. ⌜ Runs (middleParted lo hi 1 false (mapped Cartesian))
         (held w (now (vertices .entry)) (now (triangles .entry)) (now (work .entry)))
         (held r (now (vertices .exit)) (now (triangles .exit)) (now (work .exit))) ⌝ }
 {

@@ -2,6 +2,7 @@
 mod box_shape;
 mod faces;
 mod flat;
+mod param_box;
 
 pub use box_shape::weld_box_shape;
-pub use faces::weld_param_box;
+pub use param_box::weld_param_box;

@@ -5,7 +5,6 @@ ghost use Rattle.weld.specs.Rep.{held, Ready, Runs};
 ghost use Rattle.solid_spec.specs.Cylinder as Cylinder;
 use ieee::TAU;
 use math::Vec3;
-use surface::Turns;
 use surface_spec::Chart;
 use weld::Welder;
 
@@ -43,23 +42,7 @@ fn weld_tube(
         z: len,
     };
     let chart = Chart::Around { a, d, e1, e2 };
-    let mut table = [0.0; 2050];
-    let mut numbers = [0usize; 1025];
-    let l = surface_box::line_of(lo, hi, np, true, 1);
-    surface::fill_turns(Turns::OnLine { l }, np, &mut table);
-    solid_box::weld_param_box(
-        vertices,
-        triangles,
-        work,
-        w,
-        lo,
-        hi,
-        np,
-        true,
-        chart,
-        &table,
-        &mut numbers,
-    )
+    solid_box::weld_param_box(vertices, triangles, work, w, lo, hi, np, true, chart)
 }
 
 pub fn weld_cylinder(

@@ -1,4 +1,4 @@
--- `solid_box::faces::weld_param_box` meets its contract. Assumes nothing.
+-- `solid_box::faces::weld_faces` meets its contract. Assumes nothing.
 use native.Mathlib.Omega.{arith}
 use mathlib.Core.Path.{_≡_, refl, _∙_}
 use mathlib.Core.Bool.{false}
@@ -11,8 +11,8 @@ use Rattle.surface_spec.specs.Surface.{mapped}
 use Rattle.solid_box.specs.Box.{faceOf}
 use Rattle.solid_box.proofs.FaceRuns.{faces-more, box-runs, guesses-kept}
 use lib.ListN.{length}
-use Rattle.solid_box.proofs.faces.weld_param_box.Statement.{statement}
-use Rattle.solid_box.proofs.faces.weld_param_box.Tie as tie
+use Rattle.solid_box.proofs.faces.weld_faces.Statement.{statement}
+use Rattle.solid_box.proofs.faces.weld_faces.Tie as tie
 
 abbrev Inv-loop : tie.InvT-loop
 Inv-loop vertices₀ triangles₀ work₀ lo hi n turns chart table numbers₀ st₀ f₀ vertices triangles work numbers st f =
@@ -53,8 +53,8 @@ same-length-4 c = c .before .loop .inv .2
 returns : tie.Need-returns Inv-loop μ-loop
 returns c = box-runs _ _ _ _ _ (c .before .loop .f) _ _ (omega (arith, c .before .loop .inv .0, c .loop-test .left)) (c .before .loop .inv .1)
 
-pub weld-param-box-spec : {M : Type 1} → statement M
-weld-param-box-spec =
+pub weld-faces-spec : {M : Type 1} → statement M
+weld-faces-spec =
     tie.close
     (tie.spec
     Inv-loop
