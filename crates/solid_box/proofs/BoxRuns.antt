@@ -9,25 +9,20 @@ use Rattle.weld.specs.Rep.{Held, Runs}
 use Rattle.weld.specs.Runs.{runs-as}
 use Rattle.surface_spec.specs.declared.Chart.the-variants.{Cartesian, Cylindrical}
 use Rattle.shape.specs.Arc.{arcSegments, isFull}
-use Rattle.solid_spec.specs.Grid.{Soup}
-use Rattle.solid_spec.specs.ParamBox.{along, paramBox}
 use Rattle.solid_spec.specs.Coords.{cylindricalToCartesian}
 use Rattle.solid_spec.specs.Boxes.{asIs, turnedTo, cylindricalBox, boxShape}
 use Rattle.surface_spec.specs.Surface.{mapped}
+use Rattle.solid_box.specs.Box.{middleParted}
 use Rattle.surface_spec.proofs.SurfaceGrids.{cartesian-chart, cylindrical-chart}
 
--- the parameter box of the contracts: n parts on the middle axis, one on the others
-abbrev boxed : Vec3 → Vec3 → ℕ → Bool → (Vec3 → Vec3) → Soup
-boxed lo hi n turns map = paramBox (along (lo .x) (hi .x) 1 false) (along (lo .y) (hi .y) n turns) (along (lo .z) (hi .z) 1 false) map
-
 pub cylindrical-runs : (full : Bool) (lo hi high : Vec3) (segments n : ℕ) (h r : Held) → high ≡ turnedTo full lo hi → n ≡ arcSegments segments (sub binary64 (high .y) (lo .y))
-    → Runs (boxed lo high n full (mapped Cylindrical)) h r → Runs (cylindricalBox full lo hi segments) h r
+    → Runs (middleParted lo high n full (mapped Cylindrical)) h r → Runs (cylindricalBox full lo hi segments) h r
 unfolding cylindricalBox
 cylindrical-runs full lo hi high segments n h r e d R =
     runs-as
-    (ap (λ (f : Vec3 → Vec3). boxed lo high n full f) cylindrical-chart
-    ∙ ap (λ (k : ℕ). boxed lo high k full cylindricalToCartesian) d
-    ∙ ap (λ (v : Vec3). boxed lo v (arcSegments segments (sub binary64 (v .y) (lo .y))) full cylindricalToCartesian) e) R
+    (ap (λ (f : Vec3 → Vec3). middleParted lo high n full f) cylindrical-chart
+    ∙ ap (λ (k : ℕ). middleParted lo high k full cylindricalToCartesian) d
+    ∙ ap (λ (v : Vec3). middleParted lo v (arcSegments segments (sub binary64 (v .y) (lo .y))) full cylindricalToCartesian) e) R
 
 module _ (a b lo hi : Vec3) (cylindrical : Bool) (segments : ℕ) (h r : Held) where
   pub shape-turned : (full : Bool) → lo ≡ vMin a b → hi ≡ vMax a b → cylindrical ≡ true → full ≡ isFull (sub binary64 (hi .y) (lo .y))
@@ -40,12 +35,12 @@ module _ (a b lo hi : Vec3) (cylindrical : Bool) (segments : ℕ) (h r : Held) w
       ∙ ap (λ (v : Vec3). cylindricalBox (isFull (sub binary64 (v .y) (vMin a b .y))) (vMin a b) v segments) q
       ∙ ap (λ (t : Bool). boxShape a b t segments) (sym e)) R
 
-  pub shape-straight : lo ≡ vMin a b → hi ≡ vMax a b → cylindrical ≡ false → Runs (boxed lo hi 1 false (mapped Cartesian)) h r
+  pub shape-straight : lo ≡ vMin a b → hi ≡ vMax a b → cylindrical ≡ false → Runs (middleParted lo hi 1 false (mapped Cartesian)) h r
       → Runs (boxShape a b cylindrical segments) h r
   unfolding boxShape
   shape-straight p q e R =
       runs-as
-      (ap (λ (f : Vec3 → Vec3). boxed lo hi 1 false f) cartesian-chart
-      ∙ ap (λ (v : Vec3). boxed v hi 1 false asIs) p
-      ∙ ap (λ (v : Vec3). boxed (vMin a b) v 1 false asIs) q
+      (ap (λ (f : Vec3 → Vec3). middleParted lo hi 1 false f) cartesian-chart
+      ∙ ap (λ (v : Vec3). middleParted v hi 1 false asIs) p
+      ∙ ap (λ (v : Vec3). middleParted (vMin a b) v 1 false asIs) q
       ∙ ap (λ (t : Bool). boxShape a b t segments) (sym e)) R
