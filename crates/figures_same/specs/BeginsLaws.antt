@@ -14,7 +14,8 @@ begins-take l [] e = refl
 begins-take [] (y ∷ front) e = absurd (false≢true e)
 begins-take (x ∷ l) (y ∷ front) e = go (eqb x y) refl e (begins-take l front)
   where
-    go : (t : Bool) → eqb x y ≡ t → (t && begins eqb l front) ≡ true → (begins eqb l front ≡ true → take (length front) l ≡ front) → x ∷ take (length front) l ≡ y ∷ front
+    go : (t : Bool) → eqb x y ≡ t → (t && begins eqb l front) ≡ true → (begins eqb l front ≡ true → take (length front) l ≡ front)
+        → x ∷ take (length front) l ≡ y ∷ front
     go true p q h = λ j. eqb-true x y p j ∷ h q j
     go false p q h = absurd (false≢true q)
 

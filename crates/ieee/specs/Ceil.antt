@@ -44,7 +44,8 @@ ceiling-is (inf s) (inl z) h = absurd z
 ceiling-is (inf s) (inr z) h = absurd z
 ceiling-is (fin false zero e) w h = uncapped ((0 * up e + (down e - 1)) / down e) (least (0 * up e) (down e) 1024 (down-pos e) h)
 ceiling-is (fin false (suc m) e) w h = uncapped ((suc m * up e + (down e - 1)) / down e) (least (suc m * up e) (down e) 1024 (down-pos e) h)
-ceiling-is (fin true zero e) w h = nothing ((0 * up e + (down e - 1)) / down e) (least (0 * up e) (down e) 0 (down-pos e) (le-trans (le-of-eq (zero-mul (up e))) zero-le))
+ceiling-is (fin true zero e) w h =
+    nothing ((0 * up e + (down e - 1)) / down e) (least (0 * up e) (down e) 0 (down-pos e) (le-trans (le-of-eq (zero-mul (up e))) zero-le))
   where
     nothing : (q : ℕ) → q ≤ 0 → 0 ≡ q
     nothing q h = omega arith

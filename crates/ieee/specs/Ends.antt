@@ -18,7 +18,8 @@ use Rattle.ieee.specs.Same.{isZero, Same, plusZero, mul-zero-l, mul-zero
 value-not-zero : (x : Float) (s : Bool) (a c : ℕ) → 0 < a → HasValue x s a c → T (not (isZero x))
 value-not-zero nan s a c p h = tt
 value-not-zero (inf t) s a c p h = tt
-value-not-zero (fin t zero e) s a c p h = absurd (lt-irrefl 0 (subst (λ (x : ℕ). 0 < x) (sym (h .1) ∙ ap (λ (x : ℕ). x * c) (zero-mul (up e)) ∙ zero-mul c) (mul-pos p (down-pos e))))
+value-not-zero (fin t zero e) s a c p h =
+    absurd (lt-irrefl 0 (subst (λ (x : ℕ). 0 < x) (sym (h .1) ∙ ap (λ (x : ℕ). x * c) (zero-mul (up e)) ∙ zero-mul c) (mul-pos p (down-pos e))))
 value-not-zero (fin t (suc m) e) s a c p h = tt
 
 pub ofNat-value : (n : ℕ) → n ≤ 2 ^ 53 → HasValue (ofInt binary64 (pos n)) false n 1
@@ -45,7 +46,8 @@ left-end lo hi n p t a b =
     let c = ofInt binary64 (pos n) in
     let b' : n ≤ 2 ^ 53 = le-trans b (lit≤ tt) in
     let z : T (isZero (mul binary64 w plusZero)) = mul-zero-r binary64 w plusZero t tt in
-    add-zero-same binary64 lo (div binary64 (mul binary64 w plusZero) c) p (div-zero-l binary64 (mul binary64 w plusZero) c z (ofNat-finite n b') (ofNat-not-zero n a b'))
+    add-zero-same binary64 lo (div binary64 (mul binary64 w plusZero) c) p
+    (div-zero-l binary64 (mul binary64 w plusZero) c z (ofNat-finite n b') (ofNat-not-zero n a b'))
 
 -- for any n: where hi - lo is not finite, the end is not
 pub left-end-not-finite : (lo hi : Float) (n : ℕ) → T (not (finite (sub binary64 hi lo))) → T (not (finite (leftEnd lo hi n)))

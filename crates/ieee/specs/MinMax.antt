@@ -23,8 +23,10 @@ round-zero-finite f s a c = subst (λ (x : Float). T (finite x)) (sym (round-zer
 
 self-minus-finite : (f : Format) (s : Bool) (a c : ℕ) → T (finite (sum f s a (not s) a c))
 unfolding sum
-self-minus-finite f true a c = cond-finite (ltb a a) (round f false (a - a) c) (round f (ltb a a) (a - a) c) (round-zero-finite f false a c) (round-zero-finite f (ltb a a) a c)
-self-minus-finite f false a c = cond-finite (ltb a a) (round f true (a - a) c) (round f false (a - a) c) (round-zero-finite f true a c) (round-zero-finite f false a c)
+self-minus-finite f true a c =
+    cond-finite (ltb a a) (round f false (a - a) c) (round f (ltb a a) (a - a) c) (round-zero-finite f false a c) (round-zero-finite f (ltb a a) a c)
+self-minus-finite f false a c =
+    cond-finite (ltb a a) (round f true (a - a) c) (round f false (a - a) c) (round-zero-finite f true a c) (round-zero-finite f false a c)
 
 finite-eq : (z : Float) → T (finite z) → eq z z ≡ true
 finite-eq z h = T-true (eq z z) (eq-refl z (finite-not-nan z h))
@@ -34,7 +36,8 @@ unfolding sub eq
 self-minus f nan = refl
 self-minus f (inf true) = refl
 self-minus f (inf false) = refl
-self-minus f (fin s m e) = finite-eq (sum f s (m * up e * down e) (not s) (m * up e * down e) (down e * down e)) (self-minus-finite f s (m * up e * down e) (down e * down e))
+self-minus f (fin s m e) = finite-eq (sum f s (m * up e * down e) (not s) (m * up e * down e) (down e * down e))
+    (self-minus-finite f s (m * up e * down e) (down e * down e))
 
 -- ---- min and max
 eq-self : (a : Float) → eq a a ≡ not (isNan a)
@@ -72,7 +75,8 @@ negated nan h = refl
 negated (inf true) h = refl
 negated (inf false) h = absurd (false≢true h)
 negated (fin true m e) h = refl
-negated (fin false m e) h = absurd (never (m * up e * 1) (0 * down e) (ltb→lt (m * up e * 1) (0 * down e) (true-T (ltb (m * up e * 1) (0 * down e)) h)) (zero-mul (down e)))
+negated (fin false m e) h = absurd
+    (never (m * up e * 1) (0 * down e) (ltb→lt (m * up e * 1) (0 * down e) (true-T (ltb (m * up e * 1) (0 * down e)) h)) (zero-mul (down e)))
   where
     never : (a b : ℕ) → a < b → b ≡ 0 → ⊥
     never a b h k = omega arith
@@ -86,7 +90,8 @@ canon-absolute f (fin s zero e) t h = ap (λ (d : ℤ). fin false zero d) (sym (
 canon-absolute f (fin false (suc m) e) t h = refl
 canon-absolute f (fin true (suc m) e) t h =
     let a = suc m * up e * 1 + 0 * down e in
-    absurd (true≢false (sym (T-true (ltb 0 a) (lt→ltb 0 a (lt-of-lt-of-le (mul-pos (mul-pos (zero-lt-suc m) (up-pos e)) (zero-lt-suc 0)) (le-add-right (suc m * up e * 1) (0 * down e))))) ∙ h))
+    absurd (true≢false (sym (T-true (ltb 0 a)
+    (lt→ltb 0 a (lt-of-lt-of-le (mul-pos (mul-pos (zero-lt-suc m) (up-pos e)) (zero-lt-suc 0)) (le-add-right (suc m * up e * 1) (0 * down e))))) ∙ h))
 
 pub kept : (f : Format) (x : Float) → T (fits f x) → lt x plusZero ≡ false → add f x plusZero ≡ absolute x
 kept f x t h = plus-zero f x t ∙ canon-absolute f x t h

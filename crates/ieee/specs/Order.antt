@@ -34,7 +34,8 @@ level-same true x d false y c h = omega arith
 level-same true x d true y c h = omega (arith, eqb→eq (x * d) (y * c) (and-l (eqb (x * d) (y * c)) true h))
 
 -- ±x / c ≤ ±y / d
-at-most : (s : Bool) (x d : ℕ) (t : Bool) (y c : ℕ) → T (below s (x * d) t (y * c) || level s (x * d) t (y * c)) → plus s x * d + minus t y * c ≤ plus t y * c + minus s x * d
+at-most : (s : Bool) (x d : ℕ) (t : Bool) (y c : ℕ) → T (below s (x * d) t (y * c) || level s (x * d) t (y * c))
+    → plus s x * d + minus t y * c ≤ plus t y * c + minus s x * d
 at-most s x d t y c h = go (or-split (below s (x * d) t (y * c)) (level s (x * d) t (y * c)) h)
   where
     go : T (below s (x * d) t (y * c)) ⊎ T (level s (x * d) t (y * c)) → plus s x * d + minus t y * c ≤ plus t y * c + minus s x * d
@@ -70,8 +71,10 @@ cycle (fin s j e) (fin t m d) nan h k l = k
 cycle (fin s j e) (fin t m d) (inf true) h k l = k
 cycle (fin s j e) (fin t m d) (inf false) h k l = l
 cycle (fin s j e) (fin t m d) (fin u n g) h k l =
-    around (plus s (j * up e)) (minus s (j * up e)) (down e) (plus t (m * up d)) (minus t (m * up d)) (down d) (plus u (n * up g)) (minus u (n * up g)) (down g) (down-pos d)
-    (at-most s (j * up e) (down d) t (m * up d) (down e) h) (at-most t (m * up d) (down g) u (n * up g) (down d) k) (below-less u (n * up g) (down e) s (j * up e) (down g) l)
+    around (plus s (j * up e)) (minus s (j * up e)) (down e) (plus t (m * up d)) (minus t (m * up d)) (down d) (plus u (n * up g)) (minus u (n * up g))
+    (down g) (down-pos d)
+    (at-most s (j * up e) (down d) t (m * up d) (down e) h) (at-most t (m * up d) (down g) u (n * up g) (down d) k)
+    (below-less u (n * up g) (down e) s (j * up e) (down g) l)
 
 -- ---- the laws
 some-left : (x y : Float) → T (le x y) → T (not (isNan x))

@@ -146,7 +146,8 @@ zero-of-size : (s : Bool) (m : ℕ) (e d : ℤ) → m * up e * down d ≡ 0 → 
 zero-of-size s zero e d h = tt
 zero-of-size s (suc m) e d h = absurd (lt-irrefl 0 (subst (λ (x : ℕ). 0 < x) h (mul-pos (mul-pos (zero-lt-suc m) (up-pos e)) (down-pos d))))
 
-level→same : (f : Format) (s : Bool) (m : ℕ) (e : ℤ) (t : Bool) (n : ℕ) (d : ℤ) → T (fits f (fin s m e)) → T (fits f (fin t n d)) → T (eq (fin s m e) (fin t n d)) → Same (fin s m e) (fin t n d)
+level→same : (f : Format) (s : Bool) (m : ℕ) (e : ℤ) (t : Bool) (n : ℕ) (d : ℤ) → T (fits f (fin s m e)) → T (fits f (fin t n d))
+    → T (eq (fin s m e) (fin t n d)) → Same (fin s m e) (fin t n d)
 unfolding eq
 level→same f s m e t n d p q h =
     let a = m * up e * down d in
@@ -174,7 +175,8 @@ unfolding eq isNan
 eq-refl nan h = absurd h
 eq-refl (inf s) h = beq-refl s
 eq-refl (fin s m e) h =
-    and-i (eqb (m * up e * down e) (m * up e * down e)) (Bool·beq s s || eqb (m * up e * down e) 0) (eqb-refl (m * up e * down e)) (or-l (Bool·beq s s) (eqb (m * up e * down e) 0) (beq-refl s))
+    and-i (eqb (m * up e * down e) (m * up e * down e)) (Bool·beq s s || eqb (m * up e * down e) 0) (eqb-refl (m * up e * down e))
+    (or-l (Bool·beq s s) (eqb (m * up e * down e) 0) (beq-refl s))
 
 zeros-level : (s t : Bool) (a b : ℕ) → a ≡ 0 → b ≡ 0 → T (level s a t b)
 zeros-level s t a b h k =
@@ -221,13 +223,15 @@ canon-finite (fin s zero e) t = tt
 canon-finite (fin s (suc m) e) t = tt
 
 -- what came out of `+ 0.0` is equal as data where `==` says so
-pub eq-after-plus-zero : (f : Format) (a b : Float) → T (fits f a) → T (fits f b) → T (finite a) → (eq (add f a plusZero) (add f b plusZero) ≡ true) ↔ (add f a plusZero ≡ add f b plusZero)
+pub eq-after-plus-zero : (f : Format) (a b : Float) → T (fits f a) → T (fits f b) → T (finite a)
+    → (eq (add f a plusZero) (add f b plusZero) ≡ true) ↔ (add f a plusZero ≡ add f b plusZero)
 eq-after-plus-zero f a b p q t =
     let x = add f a plusZero in
     let y = add f b plusZero in
     let fx : T (finite x) = subst (λ (z : Float). T (finite z)) (sym (plus-zero f a p)) (canon-finite a t) in
     let i = eq-iff-same f x y (add-fits f a plusZero) (add-fits f b plusZero) fx in (
       (λ (h : eq x y ≡ true).
-          plus-zero f a p ∙ sym (canon-canon a) ∙ ap canon (sym (plus-zero f a p)) ∙ same→canon x y (i .0 h) ∙ ap canon (plus-zero f b q) ∙ canon-canon b ∙ sym (plus-zero f b q)),
+          plus-zero f a p ∙ sym (canon-canon a) ∙ ap canon (sym (plus-zero f a p)) ∙ same→canon x y (i .0 h) ∙ ap canon (plus-zero f b q) ∙ canon-canon b
+          ∙ sym (plus-zero f b q)),
       (λ (h : x ≡ y). i .1 (inl h)),
     )

@@ -103,8 +103,10 @@ both f s a d p = round-same f s (a * d + a * d) (d * d) (a * 2) d (mul-pos p p) 
 pub doubled : (f : Format) (s : Bool) (m : ℕ) (e : ℤ) → T (fits f (fin s m e)) → m * up e * 2 < 2 ^ suc (emax f) * down e
     → HasValue (add f (fin s m e) (fin s m e)) s (m * up e * 2) (down e)
 unfolding add sum
-doubled f true m e p h = subst (λ (x : Float). HasValue x true (m * up e * 2) (down e)) (sym (both f true (m * up e) (down e) (down-pos e))) (scaled f true m e 1 p h)
-doubled f false m e p h = subst (λ (x : Float). HasValue x false (m * up e * 2) (down e)) (sym (both f false (m * up e) (down e) (down-pos e))) (scaled f false m e 1 p h)
+doubled f true m e p h = subst (λ (x : Float). HasValue x true (m * up e * 2) (down e)) (sym (both f true (m * up e) (down e) (down-pos e)))
+    (scaled f true m e 1 p h)
+doubled f false m e p h = subst (λ (x : Float). HasValue x false (m * up e * 2) (down e)) (sym (both f false (m * up e) (down e) (down-pos e)))
+    (scaled f false m e 1 p h)
 
 -- ---- finite results of `round`
 pub value-finite : (x : Float) (s : Bool) (a c : ℕ) → HasValue x s a c → T (finite x)

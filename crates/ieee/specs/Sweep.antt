@@ -68,7 +68,8 @@ zero-or-positive (inf false) (fin s m e) t h k = absurd k
 zero-or-positive (fin false zero e) hi t h k = inl tt
 zero-or-positive (fin false (suc m) e) hi t h k = inr (lt→ltb 0 (suc m) (zero-lt-suc m))
 zero-or-positive (fin true zero e) hi t h k = inl tt
-zero-or-positive (fin true (suc m) e) hi t h k = absurd (not-minus (0 * down e) (suc m * up e * 1) (mul-pos (mul-pos (zero-lt-suc m) (up-pos e)) (zero-lt-suc 0)) h)
+zero-or-positive (fin true (suc m) e) hi t h k =
+    absurd (not-minus (0 * down e) (suc m * up e * 1) (mul-pos (mul-pos (zero-lt-suc m) (up-pos e)) (zero-lt-suc 0)) h)
 
 -- ---- the two bounds
 zero-le-top : (x : Float) → T (isZero x) → T (le x top)
@@ -97,7 +98,8 @@ rounded-above f a c C =
 
 -- ---- full * s
 grow : (n a D M d : ℕ) → n ≤ 1024 → a * D ≤ M * d → n * a * D ≤ 1024 * M * (1 * d)
-grow n a D M d h k = le-trans (le-of-eq (mul-assoc n a D)) (le-trans (mul-le-mul h k) (le-of-eq (sym (mul-assoc 1024 M d) ∙ ap (λ (x : ℕ). 1024 * M * x) (sym (one-mul d)))))
+grow n a D M d h k = le-trans (le-of-eq (mul-assoc n a D))
+    (le-trans (mul-le-mul h k) (le-of-eq (sym (mul-assoc 1024 M d) ∙ ap (λ (x : ℕ). 1024 * M * x) (sym (one-mul d)))))
 
 module _ (n : ℕ) (s : Float) (some : 1 ≤ n) (few : n ≤ 1024) (p : T (positive s)) where
   few' : n ≤ 2 ^ 53
@@ -132,7 +134,8 @@ quotient-within : (q : Float) → T (positive q) → T (le q turns) → Within (
 quotient-within q p h = record {
   above = rw (quotient-is q p) (rounded-above binary64 (num q * den turn) (num turn * den q) (mul-pos (lit< tt) (den-pos q)));
   under = rw (quotient-is q p, ← of-1024)
-      (round-mono binary64 (num q * den turn) (num turn * den q) 1024 1 (mul-pos (lit< tt) (den-pos q)) (zero-lt-suc 0) (shrunk (num q) (den q) (le→cross q turns p tt h)));
+      (round-mono binary64 (num q * den turn) (num turn * den q) 1024 1 (mul-pos (lit< tt) (den-pos q)) (zero-lt-suc 0)
+      (shrunk (num q) (den q) (le→cross q turns p tt h)));
 }
 
 zero-over : (q : Float) → T (isZero q) → Within (div binary64 q turn)
@@ -170,7 +173,9 @@ absolute-above : (x : Float) → T (not (isNan x)) → T (le plusZero (absolute 
 unfolding isNan absolute le
 absolute-above nan h = absurd h
 absolute-above (inf s) h = tt
-absolute-above (fin s m e) h = le-of-values plusZero (fin false m e) 0 1 (m * up e) (down e) (zero-lt-suc 0) (down-pos e) (refl, refl) (refl, refl) (le-trans (le-of-eq (zero-mul (down e))) zero-le)
+absolute-above (fin s m e) h =
+    le-of-values plusZero (fin false m e) 0 1 (m * up e) (down e) (zero-lt-suc 0) (down-pos e) (refl, refl) (refl, refl)
+    (le-trans (le-of-eq (zero-mul (down e))) zero-le)
 
 pub arc-within : (n : ℕ) (x : Float) → T (not (isNan x)) → 3 ≤ n → n ≤ 1024 → Within (sweep n (minimum (absolute x) tau))
 unfolding isNan ofBits le

@@ -14,7 +14,8 @@ use Rattle.ieee.specs.Number.{minimum, maximum}
 
 -- ±a ≤ ±b
 at-or-below : (a b : ℕ) → a ≤ b → T (ltb a b || (eqb a b && true))
-at-or-below a b h = elim (eq-or-lt-of-le h) [ inl e ↦ or-r (ltb a b) (eqb a b && true) (and-i (eqb a b) true (eq→eqb e) tt) | inr l ↦ or-l (ltb a b) (eqb a b && true) (lt→ltb a b l) ]
+at-or-below a b h = elim (eq-or-lt-of-le h)
+    [ inl e ↦ or-r (ltb a b) (eqb a b && true) (and-i (eqb a b) true (eq→eqb e) tt) | inr l ↦ or-l (ltb a b) (eqb a b && true) (lt→ltb a b l) ]
 
 opposite : (a b : ℕ) → a ≡ 0 → b ≡ 0 → T (eqb a b && eqb a 0)
 opposite a b h k = and-i (eqb a b) (eqb a 0) (eq→eqb (h ∙ sym k)) (eq→eqb h)

@@ -15,7 +15,11 @@ use Rattle.ieee.specs.Whole.{halfUp, nearestWhole, mod4, wholeOf}
 -- a / b - 1 / 2 < halfUp a b ≤ a / b + 1 / 2, so no whole number is nearer, and at a tie it is the upper one
 pub half-up-nearest : (a b : ℕ) → 0 < b → (halfUp a b * (2 * b) ≤ 2 * a + b) × (2 * a < halfUp a b * (2 * b) + b)
 unfolding halfUp
-half-up-nearest a b B = (div-mul-le-self (2 * a + b) (2 * b), over ((2 * a + b) / (2 * b)) (div-lt-iff-lt-mul {k = 2 * b} (mul-pos (zero-lt-suc 1) B) .0 (less ((2 * a + b) / (2 * b)))))
+half-up-nearest a b B = (
+  div-mul-le-self (2 * a + b) (2 * b),
+  over ((2 * a + b) / (2 * b))
+      (div-lt-iff-lt-mul {k = 2 * b} (mul-pos (zero-lt-suc 1) B) .0 (less ((2 * a + b) / (2 * b)))),
+)
   where
     less : (q : ℕ) → q < q + 1
     less q = omega arith

@@ -74,7 +74,8 @@ pub round-zero : (f : Format) (s : Bool) (c : ℕ) → round f s 0 c ≡ fin s 0
 round-zero f s c =
     round-is f s 0 c
     ∙ ap (λ (n : ℕ). core f s n c (size (n / c) - prec f)) (zero-mul (2 ^ low f))
-    ∙ ap (λ (k : ℕ). units f s (nearest (0 / (c * 2 ^ k)) (compare (0 % (c * 2 ^ k) * 2) (c * 2 ^ k))) k) (ap (λ (n : ℕ). size n - prec f) (zero-div c) ∙ zero-drop f)
+    ∙ ap (λ (k : ℕ). units f s (nearest (0 / (c * 2 ^ k)) (compare (0 % (c * 2 ^ k) * 2) (c * 2 ^ k))) k)
+    (ap (λ (n : ℕ). size n - prec f) (zero-div c) ∙ zero-drop f)
     ∙ ap (λ (q : ℕ). units f s (nearest q (compare (0 % (c * 1) * 2) (c * 1))) 0) (zero-div (c * 1))
     ∙ ap (λ (q : ℕ). units f s (nearest 0 (compare (q * 2) (c * 1))) 0) (zero-mod (c * 1))
     ∙ zero-units f s (c * 1)
@@ -100,7 +101,8 @@ beq-comm false true = refl
 beq-comm false false = refl
 
 -- unlike signs: the larger one's sign, and +0 where neither is larger
-mixed : (f : Format) (a b c : ℕ) → cond (ltb a b) (round f false (b - a) c) (round f (ltb b a) (a - b) c) ≡ cond (ltb b a) (round f true (a - b) c) (round f false (b - a) c)
+mixed : (f : Format) (a b c : ℕ)
+    → cond (ltb a b) (round f false (b - a) c) (round f (ltb b a) (a - b) c) ≡ cond (ltb b a) (round f true (a - b) c) (round f false (b - a) c)
 mixed f a b c = go (ltb a b) (ltb b a) (ltb→lt a b) (ltb→lt b a) (nltb→le a b) (nltb→le b a)
   where
     both : a < b → b < a → ⊥
@@ -140,7 +142,8 @@ add-swap f (inf s) (fin t n d) = refl
 add-swap f (fin s m e) nan = refl
 add-swap f (fin s m e) (inf t) = refl
 add-swap f (fin s m e) (fin t n d) =
-    ap (λ (c : ℕ). sum f s (m * up e * down d) t (n * up d * down e) c) (mul-comm (down e) (down d)) ∙ sum-comm f s (m * up e * down d) t (n * up d * down e) (down d * down e)
+    ap (λ (c : ℕ). sum f s (m * up e * down d) t (n * up d * down e) c) (mul-comm (down e) (down d))
+    ∙ sum-comm f s (m * up e * down d) t (n * up d * down e) (down d * down e)
 
 unlike-comm : (s t : Bool) → unlike s t ≡ unlike t s
 unlike-comm s t = ap not (beq-comm s t)
@@ -174,7 +177,8 @@ canon-sum-zero f s t b c = go (Bool·beq s t) (beq-eq s t)
     inner true h = ap (λ (x : ℕ). canon (round f t x c)) (sub-zero b)
     inner false h = ap canon (round-zero-at f (s && ltb b 0) (0 - b) c away) ∙ ap canon (sym (round-zero-at f t b c (none (h tt))))
 
-    go : (u : Bool) → (T u → s ≡ t) → canon (cond u (round f s (0 + b) c) (cond (ltb 0 b) (round f t (b - 0) c) (round f (s && ltb b 0) (0 - b) c))) ≡ canon (round f t b c)
+    go : (u : Bool) → (T u → s ≡ t)
+        → canon (cond u (round f s (0 + b) c) (cond (ltb 0 b) (round f t (b - 0) c) (round f (s && ltb b 0) (0 - b) c))) ≡ canon (round f t b c)
     go true h = λ i. canon (round f (h tt i) (zero-add b i) c)
     go false h = inner (ltb 0 b) (nltb→le 0 b)
 
@@ -186,7 +190,8 @@ unfolding add
 zero-sum f s e t n d =
     ap (λ (a : ℕ). canon (sum f s a t (n * up d * down e) (down e * down d))) (no-size e d)
     ∙ canon-sum-zero f s t (n * up d * down e) (down e * down d)
-    ∙ ap canon (round-same f t (n * up d * down e) (down e * down d) (n * up d) (down d) (mul-pos (down-pos e) (down-pos d)) (down-pos d) (mul-assoc (n * up d) (down e) (down d)))
+    ∙ ap canon (round-same f t (n * up d * down e) (down e * down d) (n * up d) (down d) (mul-pos (down-pos e) (down-pos d)) (down-pos d)
+    (mul-assoc (n * up d) (down e) (down d)))
 
 pub zero-add-is : (f : Format) (x y : Float) → T (isZero x) → canon (add f x y) ≡ canon (add f plusZero y)
 zero-add-is f nan y z = absurd z
@@ -201,7 +206,8 @@ is-zero x s h = subst (λ (y : Float). T (isZero y)) (sym h) tt
 
 pub zero-times : (f : Format) (s : Bool) (e : ℤ) (t : Bool) (n : ℕ) (d : ℤ) → mul f (fin s 0 e) (fin t n d) ≡ fin (unlike s t) 0 (pos 0)
 unfolding mul
-zero-times f s e t n d = round-zero-at f (unlike s t) (0 * up e * (n * up d)) (down e * down d) (ap (λ (x : ℕ). x * (n * up d)) (zero-mul (up e)) ∙ zero-mul (n * up d))
+zero-times f s e t n d = round-zero-at f (unlike s t) (0 * up e * (n * up d)) (down e * down d)
+    (ap (λ (x : ℕ). x * (n * up d)) (zero-mul (up e)) ∙ zero-mul (n * up d))
 
 pub zero-mul-is : (f : Format) (x y : Float) → T (isZero x) → canon (mul f x y) ≡ canon (mul f plusZero y)
 zero-mul-is f nan y z = absurd z

@@ -9,7 +9,7 @@ use lib.Dec.{ltb, eqb}
 use borrow.Author.Tests.{ltb-false}
 use Rattle.math.specs.Vec.{vFinite}
 use Rattle.transform.specs.declared.TransformOp.{TransformOp}
-use Rattle.transform.specs.Checks.{opCountWithin, opsFinite, opsAnglesWithin}
+use Rattle.transform.specs.Checks.{tooManyOps, opsFinite, opsAnglesWithin}
 use Rattle.mesh_spec.specs.Mesh.{append}
 use Rattle.refusal.specs.declared.Refusal.{Refusal}
 use Rattle.refusal.specs.declared.Refusal.the-variants.{Accepted, NotFinite, AngleTooLarge, BadList, PointNotFinite, NoRoom, BadMesh}
@@ -50,7 +50,7 @@ module _ (s : State) where
     transform-good : badMesh s ≡ false
     unfolding transformRefusal
     transform-good =
-        not-bad (badMesh s) (cond (not (opCountWithin count)) BadList (cond (notFinite s || bad-op) NotFinite (after ops count degrees))) (sym (ap {B = Bool} isAccepted e) ∙ h)
+        not-bad (badMesh s) (cond (tooManyOps count) BadList (cond (notFinite s || bad-op) NotFinite (after ops count degrees))) (sym (ap {B = Bool} isAccepted e) ∙ h)
 
     pub transform-sound : Sound s
     transform-sound = sound s transform-good
@@ -58,7 +58,7 @@ module _ (s : State) where
     pub transform-finite : FiniteVertices (s .vertices) (s .mesh .vertices)
     unfolding transformRefusal
     transform-finite =
-        let n = third (badMesh s) (not (opCountWithin count)) (notFinite s || bad-op) (after ops count degrees) (sym (ap {B = Bool} isAccepted e) ∙ h) in
+        let n = third (badMesh s) (tooManyOps count) (notFinite s || bad-op) (after ops count degrees) (sym (ap {B = Bool} isAccepted e) ∙ h) in
         finite-vertices s transform-good (neither (notFinite s) bad-op n .0)
 
 -- two meshes of which the second can be appended to the first

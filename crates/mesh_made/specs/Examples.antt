@@ -24,7 +24,15 @@ triangle p = record { vertices = p ∷ p ∷ p ∷ []; triangles = (0, 1, 2) ∷
 
 -- refused: the empty record, and every place zero, a broken one included
 refused-zero : madeAs NoRoom (triangle (record { x = zero; y = zero; z = zero })) (of 4 5 2)
-    ≡ record { refusal = NoRoom; state = record { mesh = recordOf 0 0; vertices = zero ∷ zero ∷ zero ∷ zero ∷ []; triangles = 0 ∷ 0 ∷ 0 ∷ 0 ∷ 0 ∷ [] }; work = 0 ∷ 0 ∷ [] }
+    ≡ record {
+      refusal = NoRoom;
+      state = record {
+        mesh = recordOf 0 0;
+        vertices = zero ∷ zero ∷ zero ∷ zero ∷ [];
+        triangles = 0 ∷ 0 ∷ 0 ∷ 0 ∷ 0 ∷ [];
+      };
+      work = 0 ∷ 0 ∷ [];
+    }
 unfolding madeAs refusedAs
 refused-zero = refl
 

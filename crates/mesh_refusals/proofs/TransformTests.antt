@@ -12,7 +12,7 @@ use Rattle.math_matrix.specs.declared.Mat4.{Mat4}
 use Rattle.math_matrix.specs.Mat.{transformPoint}
 use Rattle.transform.specs.declared.TransformOp.{TransformOp}
 use Rattle.transform.specs.Ops.{folded}
-use Rattle.transform.specs.Checks.{opCountWithin, opsFinite, opsAnglesWithin}
+use Rattle.transform.specs.Checks.{tooManyOps, opsFinite, opsAnglesWithin}
 use Rattle.mesh_spec.specs.Slices.{points}
 use Rattle.refusal.specs.declared.Refusal.{Refusal}
 use Rattle.refusal.specs.declared.Refusal.the-variants.{Accepted, NotFinite, AngleTooLarge, BadList, PointNotFinite, BadMesh}
@@ -38,11 +38,11 @@ module _ (ops : List TransformOp) (count : ℕ) (degrees : Bool) (s : State) whe
   transform-bad e = rw e
 
   module _ (good : badMesh s ≡ false) where
-    pub transform-long : opCountWithin count ≡ false → BadList ≡ transformRefusal ops count degrees s
+    pub transform-long : tooManyOps count ≡ true → BadList ≡ transformRefusal ops count degrees s
     unfolding transformRefusal
     transform-long e = rw (good, e)
 
-    module _ (short : opCountWithin count ≡ true) where
+    module _ (short : tooManyOps count ≡ false) where
       pub transform-not-finite : (notFinite s || not (opsFinite used)) ≡ true → NotFinite ≡ transformRefusal ops count degrees s
       unfolding transformRefusal
       transform-not-finite e = rw (good, short, e)
@@ -66,7 +66,7 @@ module _ (ops : List TransformOp) (count : ℕ) (degrees : Bool) (ps : List Vec3
         rw (within, e, q)
 
 -- after 8, 4 and 1
-pub transform-rest : (ops : List TransformOp) (count : ℕ) (degrees : Bool) (s : State) → badMesh s ≡ false → opCountWithin count ≡ true
+pub transform-rest : (ops : List TransformOp) (count : ℕ) (degrees : Bool) (s : State) → badMesh s ≡ false → tooManyOps count ≡ false
     → (notFinite s || not (opsFinite (take count ops))) ≡ false → (r : Refusal) → r ≡ moveRefusal ops count degrees (points (take (3 * s .mesh .vertices) (s .vertices)))
     → r ≡ transformRefusal ops count degrees s
 unfolding transformRefusal moveRefusal meshOf transformed

@@ -9,7 +9,7 @@ use Rattle.math.specs.Vec.{vFinite}
 use Rattle.math_matrix.specs.Mat.{transformPoint}
 use Rattle.transform.specs.declared.TransformOp.{TransformOp}
 use Rattle.transform.specs.Ops.{folded}
-use Rattle.transform.specs.Checks.{opCountWithin, opsFinite, opsAnglesWithin}
+use Rattle.transform.specs.Checks.{tooManyOps, opsFinite, opsAnglesWithin}
 use Rattle.mesh_spec.specs.Mesh.{Mesh}
 use Rattle.mesh_spec.specs.Edits.{transform}
 use Rattle.refusal.specs.declared.Refusal.{Refusal}
@@ -26,7 +26,7 @@ unfoldable pub transformRefusal : List TransformOp → ℕ → Bool → State �
 unfolding every transformed
 transformRefusal ops count degrees s =
     cond (badMesh s) BadMesh
-    (cond (not (opCountWithin count)) BadList
+    (cond (tooManyOps count) BadList
     (cond (notFinite s || not (opsFinite (take count ops))) NotFinite
     (cond (not (opsAnglesWithin degrees (take count ops))) AngleTooLarge
     (cond (eqb count 0) Accepted

@@ -49,7 +49,7 @@ pub fn transform_refusal(
     if mesh_check::bad_mesh(mesh, vertices, triangles) {
         return Refusal::BadMesh;
     }
-    if !transform_check::op_count_within(op_count) {
+    if transform_check::too_many_ops(op_count) {
         return Refusal::BadList;
     }
     let small = slice_bounded::all_bounded(vertices, 3 * n);

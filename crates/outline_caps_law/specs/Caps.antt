@@ -77,7 +77,8 @@ around w m =
     let e : 0 + m ≡ m = omega arith in
     sym (zero-add (chain w 0 0 (counting 1 m))) ∙ walk w 0 0 m ∙ ap (λ (x : ℕ). path w (λ i. i) x + w x 0) e
 
-bounds-last : (n m : ℕ) (s : Clipping) → n ≡ suc m → 3 ≤ n → Kept (start n) s → length (s .triangles) ≡ 3 * (n - 2) → Bounds (tris (s .triangles)) (Prism.cycle m)
+bounds-last : (n m : ℕ) (s : Clipping) → n ≡ suc m → 3 ≤ n → Kept (start n) s → length (s .triangles) ≡ 3 * (n - 2)
+    → Bounds (tris (s .triangles)) (Prism.cycle m)
 bounds-last n m s e h k q w =
     let t : edges w (s .triangles) + cycle (rev w) (counting 0 (suc m)) ≡ edges (rev w) (s .triangles) + cycle w (counting 0 (suc m)) =
     rw e at (around-start n s h k q w) in
@@ -106,5 +107,6 @@ caps v m e h q =
 
 -- the same of the corners that a solid hands to the clipper
 pub caps-prepared : (swap : Bool) (list : List Float) (m : ℕ) → length (prepared swap list) / 2 ≡ suc m → 2 ≤ m
-    → length (triangulatePolygon (prepared swap list) .triangles) ≡ 3 * (m - 1) → Bounds (tris (triangulatePolygon (prepared swap list) .triangles)) (Prism.cycle m)
+    → length (triangulatePolygon (prepared swap list) .triangles) ≡ 3 * (m - 1)
+    → Bounds (tris (triangulatePolygon (prepared swap list) .triangles)) (Prism.cycle m)
 caps-prepared swap list = caps (prepared swap list)

@@ -66,7 +66,8 @@ getD-other (a ∷ l) (suc i) d d' h = getD-other l i d d' (le-of-suc-le-suc h)
 ip-first : (a b : ℕ) (l : List ℕ) → ip (a ∷ b ∷ l) 0 ≡ last b l
 unfolding ip
 ip-first a b l =
-    let i : (0 + suc (suc (length l)) - 1) % suc (suc (length l)) ≡ suc (length l) = ap (λ (j : ℕ). j % suc (suc (length l))) (omega arith) ∙ mod-eq-of-lt (omega arith) in
+    let i : (0 + suc (suc (length l)) - 1) % suc (suc (length l)) ≡ suc (length l) =
+    ap (λ (j : ℕ). j % suc (suc (length l))) (omega arith) ∙ mod-eq-of-lt (omega arith) in
     ap (λ (j : ℕ). getD (a ∷ b ∷ l) j 0) i ∙ last-at b l
 
 inx-first : (a b : ℕ) (l : List ℕ) → inx (a ∷ b ∷ l) 0 ≡ b

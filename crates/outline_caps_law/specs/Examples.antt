@@ -26,14 +26,16 @@ n3 = fin false 3 (pos 0)
 
 -- docs/SCOPE.md, F4: the square
 pub square : triangulatePolygon (n0 ∷ n0 ∷ n1 ∷ n0 ∷ n1 ∷ n1 ∷ n0 ∷ n1 ∷ []) ≡ record { idx = []; triangles = 3 ∷ 0 ∷ 1 ∷ 1 ∷ 2 ∷ 3 ∷ []; removed = 1 }
-unfolding triangulatePolygon triangulated passes finished start pass byFound fanned dropped clipped without firstEar firstFlat isEar isFlat earAt crossAt blocked blocks point same eq inTriangle cross
-    tolerance scale maximum absolute largest isNan any find counting ip inx fan fans sub mul neg add sum round size span climb units odd lt le ofBits ofFields trailingZeros
+unfolding triangulatePolygon triangulated passes finished start pass byFound fanned dropped clipped without firstEar firstFlat isEar isFlat earAt crossAt
+    blocked blocks point same eq inTriangle cross tolerance scale maximum absolute largest isNan any find counting ip inx fan fans sub mul neg add sum round
+    size span climb units odd lt le ofBits ofFields trailingZeros
 square = refl
 
 -- docs/SCOPE.md, F5: corners on a line
 pub line : triangulatePolygon (n0 ∷ n0 ∷ n1 ∷ n0 ∷ n2 ∷ n0 ∷ n3 ∷ n0 ∷ []) ≡ record { idx = 1 ∷ 2 ∷ 3 ∷ []; triangles = []; removed = 1 }
-unfolding triangulatePolygon triangulated passes finished start pass byFound fanned dropped clipped without firstEar firstFlat isEar isFlat earAt crossAt blocked blocks point same eq inTriangle cross
-    tolerance scale maximum absolute largest isNan any find counting ip inx fan fans sub mul neg add sum round size span climb units odd lt le ofBits ofFields trailingZeros
+unfolding triangulatePolygon triangulated passes finished start pass byFound fanned dropped clipped without firstEar firstFlat isEar isFlat earAt crossAt
+    blocked blocks point same eq inTriangle cross tolerance scale maximum absolute largest isNan any find counting ip inx fan fans sub mul neg add sum round
+    size span climb units odd lt le ofBits ofFields trailingZeros
 line = refl
 
 -- docs/SCOPE.md, F5: any two corners

@@ -58,7 +58,8 @@ done-by : (n : ℕ) (s r : Clipping) (b : Bool) → ltb 3 (length (s .idx)) ≡ 
 done-by n s r true h m k = k (ltb-true _ _ h)
 done-by n s r false h m k = record { short = ltb-false _ _ h; few = m }
 
-done-after : (n f : ℕ) (v : List Float) (e : Float) (s : Clipping) → length (s .idx) ≤ 3 + f → s .removed + 3 ≤ n → s .removed + length (s .idx) ≤ n → Done n (passes f v e s)
+done-after : (n f : ℕ) (v : List Float) (e : Float) (s : Clipping) → length (s .idx) ≤ 3 + f → s .removed + 3 ≤ n → s .removed + length (s .idx) ≤ n
+    → Done n (passes f v e s)
 unfolding passes
 done-after n zero v e s h m g = record { short = omega arith; few = m }
 done-after n (suc f) v e s h m g =
@@ -67,7 +68,8 @@ done-after n (suc f) v e s h m g =
 
 -- ---- the guard
 
-enough-by : (f g : ℕ) (v : List Float) (e : Float) (s : Clipping) → (3 < length (s .idx) → passes f v e (pass v e s) ≡ passes g v e (pass v e s)) → Dec (3 < length (s .idx))
+enough-by : (f g : ℕ) (v : List Float) (e : Float) (s : Clipping) → (3 < length (s .idx) → passes f v e (pass v e s) ≡ passes g v e (pass v e s))
+    → Dec (3 < length (s .idx))
     → passes (suc f) v e s ≡ passes (suc g) v e s
 enough-by f g v e s k (yes p) = passes-more v e s f p ∙ k p ∙ sym (passes-more v e s g p)
 enough-by f g v e s k (no p) = passes-done v e s (suc f) (omega (arith, p)) ∙ sym (passes-done v e s (suc g) (omega (arith, p)))
@@ -77,7 +79,8 @@ enough : (f g : ℕ) (v : List Float) (e : Float) (s : Clipping) → length (s .
 enough zero g v e s h k = passes-done v e s zero (omega arith) ∙ sym (passes-done v e s g (omega arith))
 enough (suc f) zero v e s h k = passes-done v e s (suc f) (omega arith) ∙ sym (passes-done v e s zero (omega arith))
 enough (suc f) (suc g) v e s h k =
-    enough-by f g v e s (λ h3. enough f g v e (pass v e s) (omega (arith, pass-spent v e s h3)) (omega (arith, pass-spent v e s h3))) (decLt 3 (length (s .idx)))
+    enough-by f g v e s (λ h3. enough f g v e (pass v e s) (omega (arith, pass-spent v e s h3)) (omega (arith, pass-spent v e s h3)))
+    (decLt 3 (length (s .idx)))
 
 -- any guard of n passes or more gives what the Rust's n * n gives: the loop ends by itself
 pub guard-never-stops : (v : List Float) (e : Float) (n g : ℕ) → 1 ≤ n → n ≤ g → passes g v e (start n) ≡ passes (n * n) v e (start n)

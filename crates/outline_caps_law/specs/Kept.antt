@@ -83,7 +83,8 @@ fanned-kept s h3 =
     }
 
 -- a pass, by what the searches find
-pass-flat-kept : (v : List Float) (e : Float) (s : Clipping) (f : Found) → firstFlat v e (s .idx) ≡ f → 3 < length (s .idx) → Kept s (byFound f (dropped s) (fanned s))
+pass-flat-kept : (v : List Float) (e : Float) (s : Clipping) (f : Found) → firstFlat v e (s .idx) ≡ f → 3 < length (s .idx)
+    → Kept s (byFound f (dropped s) (fanned s))
 unfolding byFound firstFlat
 pass-flat-kept v e s (At k) h h3 = dropped-kept s k (omega (arith, find-below (isFlat v e (s .idx)) (length (s .idx)) 0 k h)) h3
 pass-flat-kept v e s Nothing h h3 = fanned-kept s h3
@@ -132,4 +133,5 @@ finished-by s false c h = kept-same s
 
 pub finished-kept : (v : List Float) (e : Float) (s : Clipping) → Kept s (finished v e s)
 unfolding finished
-finished-kept v e s = finished-by s (eqb (length (s .idx)) 3) (lt e (cross (point v (getD (s .idx) 0 0)) (point v (getD (s .idx) 1 0)) (point v (getD (s .idx) 2 0)))) refl
+finished-kept v e s = finished-by s (eqb (length (s .idx)) 3)
+    (lt e (cross (point v (getD (s .idx) 0 0)) (point v (getD (s .idx) 1 0)) (point v (getD (s .idx) 2 0)))) refl

@@ -12,8 +12,7 @@ use Rattle.refusal.specs.declared.Refusal.{Refusal}
 use Rattle.refusal.specs.declared.Refusal.the-variants.{Accepted, NotFinite, AngleTooLarge, TooManySegments, BadList}
 use Rattle.transform.specs.declared.TransformOp.{TransformOp}
 use Rattle.transform.specs.Angle.{within1000}
-use Rattle.transform.specs.Ops.{mostOps}
-use Rattle.transform.specs.Checks.{opsFinite, opsAnglesWithin}
+use Rattle.transform.specs.Checks.{tooManyOps, opsFinite, opsAnglesWithin}
 use Rattle.slice.specs.Every.{every}
 use Rattle.shape.specs.declared.Shape.{Shape}
 use Rattle.shape.specs.declared.Shape.the-variants.{Box, MultiBox, Sphere, SphericalShell, Cylinder, CylindricalShell, Polygon, LinPoly, RotPoly, Wire}
@@ -156,7 +155,7 @@ anglesBad cyl shape list degrees ops =
 unfoldable pub drawingRefusal : Shape → List Float → OwnSystem → CoordSystem → TessellationOptions → List TransformOp → ℕ → Bool → Refusal
 drawingRefusal shape list own default options ops count degrees =
     cond (tooManySegments options) TooManySegments
-    (cond (badList (itemsOf shape) (length list) || ltb mostOps count) BadList
+    (cond (badList (itemsOf shape) (length list) || tooManyOps count) BadList
     (cond (numbersBad shape list (take count ops)) NotFinite
     (cond (anglesBad (cylindrical (shapeCs shape own default)) shape list degrees (take count ops)) AngleTooLarge
     Accepted)))

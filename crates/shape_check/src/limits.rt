@@ -2,7 +2,7 @@
 ghost use mathlib.Core.Path.{_≡_};
 ghost use mathlib.Core.Bool.{_||_};
 ghost use Prim.Native.Nat.{_<_};
-ghost use lib.Dec.{ltb};
+ghost use Rattle.transform.specs.Checks.{tooManyOps};
 ghost use Rattle.shape.specs.Drawing as Drawing;
 use shape::Items;
 use shape::Shape;
@@ -37,7 +37,7 @@ fn bad_list(items: Items, n: usize) -> bool
 
 // Refusal 4 on the shape's list of n floats, and on the number of operations.
 pub fn bad_lists(shape: Shape, n: usize, op_count: usize) -> bool
-    ensures { λ r. ⌜ r ≡ (Drawing.badList (Drawing.itemsOf shape) n || ltb 16 «op_count») ⌝ }
+    ensures { λ r. ⌜ r ≡ (Drawing.badList (Drawing.itemsOf shape) n || tooManyOps «op_count») ⌝ }
 {
-    bad_list(shape::items_of(shape), n) | (16 < op_count)
+    bad_list(shape::items_of(shape), n) | transform_check::too_many_ops(op_count)
 }

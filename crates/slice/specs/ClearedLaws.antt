@@ -18,9 +18,11 @@ module _ {A : Type 0} (z : A) where
   fill zero (x ∷ l) h = refl
   fill (suc k) (x ∷ l) h = ap {B = List A} (λ r. z ∷ r) (fill k l (le-of-suc-le-suc h))
 
-  step : (f k n : ℕ) (l : List A) → n ≡ f + k → n < length l → set (take f l ++ (replicate k z ++ drop n l)) n z ≡ take f l ++ (replicate (suc k) z ++ drop (suc n) l)
+  step : (f k n : ℕ) (l : List A) → n ≡ f + k → n < length l
+      → set (take f l ++ (replicate k z ++ drop n l)) n z ≡ take f l ++ (replicate (suc k) z ++ drop (suc n) l)
   step f k n [] e h = absurd (not-suc-le-zero h)
-  step zero k n (x ∷ l) e h = subst (λ (n : ℕ). n < length (x ∷ l) → set (replicate k z ++ drop n (x ∷ l)) n z ≡ replicate (suc k) z ++ drop (suc n) (x ∷ l)) (sym same) (fill k (x ∷ l)) h
+  step zero k n (x ∷ l) e h = subst (λ (n : ℕ). n < length (x ∷ l) → set (replicate k z ++ drop n (x ∷ l)) n z ≡ replicate (suc k) z ++ drop (suc n) (x ∷ l))
+      (sym same) (fill k (x ∷ l)) h
     where
       same : n ≡ k
       same = omega arith

@@ -20,7 +20,8 @@ module _ {A : Type 0} (k : A → Bool) where
   every-end l i h = ap {B = Bool} (every k) (drop-end l i h)
 
   -- the loop's state after a turn, in which b says whether the element passes; ok says whether all before it did
-  pub every-turn : (l : List A) (i : ℕ) (x : A) (ok b : Bool) → Next l i x → b ≡ k x → (ok && every k (drop i l)) ≡ every k l → ((ok && b) && every k (drop (i + 1) l)) ≡ every k l
+  pub every-turn : (l : List A) (i : ℕ) (x : A) (ok b : Bool) → Next l i x → b ≡ k x → (ok && every k (drop i l)) ≡ every k l
+      → ((ok && b) && every k (drop (i + 1) l)) ≡ every k l
   every-turn l i x true b h t e = ap {B = Bool} (λ (q : Bool). q && every k (drop (i + 1) l)) t ∙ sym (every-next l i x h) ∙ e
   every-turn l i x false b h t e = e
 

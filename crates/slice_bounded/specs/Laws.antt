@@ -42,7 +42,8 @@ less-or-same : (a b : ℕ) → T (ltb a b || (eqb a b && true)) → a ≤ b
 less-or-same a b t = elim (or-split (ltb a b) (eqb a b && true) t) [ inl u ↦ le-of-lt (ltb→lt a b u) | inr u ↦ le-of-eq (eqb→eq a b (and-l (eqb a b) true u)) ]
 
 more-or-same : (a b : ℕ) → T (ltb a b || (eqb b a && true)) → a ≤ b
-more-or-same a b t = elim (or-split (ltb a b) (eqb b a && true) t) [ inl u ↦ le-of-lt (ltb→lt a b u) | inr u ↦ le-of-eq (sym (eqb→eq b a (and-l (eqb b a) true u))) ]
+more-or-same a b t = elim (or-split (ltb a b) (eqb b a && true) t)
+    [ inl u ↦ le-of-lt (ltb→lt a b u) | inr u ↦ le-of-eq (sym (eqb→eq b a (and-l (eqb b a) true u))) ]
 
 plain : (a p d : ℕ) → a * 1 ≤ 1 * p * d → a ≤ p * d
 plain a p d h = le-trans (le-of-eq (sym (mul-one a))) (le-trans h (le-of-eq (ap (λ (x : ℕ). x * d) (one-mul p))))
@@ -63,7 +64,8 @@ within-power k (fin false m e) t =
 power : (f : Format) (k : ℕ) → k ≤ emax f → HasValue (round f false (2 ^ k) 1) false (2 ^ k) 1
 power f k h =
     let small : 1 < 2 ^ prec f = pow-lt {i = 0} {j = prec f} (le-trans (lit≤ tt) (two f)) in
-    let fine : 1 * 2 ^ (k + low f) < 2 ^ (low f + suc (emax f)) = subst (λ (x : ℕ). x < 2 ^ (low f + suc (emax f))) (sym (one-mul (2 ^ (k + low f)))) (pow-lt {i = k + low f} {j = low f + suc (emax f)} (omega arith)) in
+    let fine : 1 * 2 ^ (k + low f) < 2 ^ (low f + suc (emax f)) =
+    subst (λ (x : ℕ). x < 2 ^ (low f + suc (emax f))) (sym (one-mul (2 ^ (k + low f)))) (pow-lt {i = k + low f} {j = low f + suc (emax f)} (omega arith)) in
     round-exact f false (2 ^ k) 1 1 (k + low f) (zero-lt-suc 0) small fine
     (sym (pow-add 2 k (low f)) ∙ sym (one-mul (2 ^ (k + low f))) ∙ sym (mul-one (1 * 2 ^ (k + low f))))
 
@@ -77,7 +79,8 @@ unfolding le
 under k nan v s m e h = absurd v
 under k (inf t) v s m e h = absurd v
 under k (fin true n d) v s m e h = absurd (true≢false (v .0))
-under k (fin false n d) v s m e h = cancel (m * up e) (n * up d) (2 ^ k) (down d) (down e) (down-pos d) (v .1) (less-or-same (m * up e * down d) (n * up d * down e) h)
+under k (fin false n d) v s m e h =
+    cancel (m * up e) (n * up d) (2 ^ k) (down d) (down e) (down-pos d) (v .1) (less-or-same (m * up e * down d) (n * up d * down e) h)
 
 infinite : (k : ℕ) (y : Float) → HasValue y false (2 ^ k) 1 → T (le (inf false) y) → ⊥
 unfolding le
@@ -85,7 +88,8 @@ infinite k nan v h = v
 infinite k (inf t) v h = v
 infinite k (fin t n d) v h = h
 
-in-units : (f : Format) (s : Bool) (k q j : ℕ) (b : Bool) (y : Float) → HasValue y false (2 ^ k) 1 → T (le (cond b (odd (suc (prec f)) false q j (low f)) (inf false)) y)
+in-units : (f : Format) (s : Bool) (k q j : ℕ) (b : Bool) (y : Float) → HasValue y false (2 ^ k) 1
+    → T (le (cond b (odd (suc (prec f)) false q j (low f)) (inf false)) y)
     → AtMost k (cond b (odd (suc (prec f)) s q j (low f)) (inf s))
 unfolding odd
 in-units f s k q j false y v h = infinite k y v h
@@ -122,7 +126,8 @@ either k true x y p q = p
 either k false x y p q = q
 
 -- A / c + B / c, where each is at most 2 ^ k
-sum-at-most : (f : Format) (k : ℕ) (s : Bool) (A : ℕ) (t : Bool) (B c : ℕ) → 0 < c → suc k ≤ emax f → A ≤ 2 ^ k * c → B ≤ 2 ^ k * c → AtMost (suc k) (sum f s A t B c)
+sum-at-most : (f : Format) (k : ℕ) (s : Bool) (A : ℕ) (t : Bool) (B c : ℕ) → 0 < c → suc k ≤ emax f → A ≤ 2 ^ k * c → B ≤ 2 ^ k * c
+    → AtMost (suc k) (sum f s A t B c)
 unfolding sum
 sum-at-most f k s A t B c p h a b =
     let twice : 2 ^ k * c + 2 ^ k * c ≡ 2 ^ suc k * c = omega (arith, ap (λ (z : ℕ). z * c) (two-pow-succ k)) in
@@ -173,7 +178,8 @@ every-finite (x ∷ l) e = go (isBounded x) (every isBounded l) e (bounded-finit
     go true b e h k = rw (is-true (finite x) (h tt), k e)
     go false b e h k = absurd (false≢true e)
 
-pub row-finite : (a b c d x y z : Float) → T (isBounded a) → T (isBounded b) → T (isBounded c) → T (isBounded d) → T (isBounded x) → T (isBounded y) → T (isBounded z)
+pub row-finite : (a b c d x y z : Float) → T (isBounded a) → T (isBounded b) → T (isBounded c) → T (isBounded d) → T (isBounded x) → T (isBounded y)
+    → T (isBounded z)
     → T (finite (add binary64 (add binary64 (add binary64 (mul binary64 a x) (mul binary64 b y)) (mul binary64 c z)) d))
 unfolding isBounded
 row-finite a b c d x y z ha hb hc hd hx hy hz =

@@ -1,11 +1,12 @@
--- Demand 3 (docs/SCOPE.md, "Words of demand 3"), whole and as one theorem, on the definitions that the contracts of `tessellate`, `append`, `flip` and `transform` cite.
+-- Demand 3 (docs/SCOPE.md, "Words of demand 3"), whole and as one theorem, on the definitions that the contracts of `tessellate`, `append`, `flip` and
+-- `transform` cite.
 -- Assumes nothing.
 -- The words are in specs/Words.antt: `Solid` has the conditions, a line for each shape.
 use mathlib.Core.Path.{sym, subst}
 use mathlib.Core.Bool.{Bool, true, false, cond}
 use mathlib.Core.List.{List, [], _∷_}
 use lib.ListN.{take}
-use lib.Dec.{ltb}
+use lib.Dec.{eqb}
 use lib.Ieee.{binary64, lt, ofBits}
 use Rattle.math_matrix.specs.declared.Mat4.{Mat4}
 use Rattle.transform.specs.Ops.{folded}
@@ -85,14 +86,14 @@ module _ (P : Mesh → Type 0) (k : KeptByDrawing P) where
 
   final : (j : Job) → EachPart (λ s. P (fromSoup s)) (jobParts j) → P (finalMesh j)
   unfolding finalMesh placed weldedMesh
-  final j e = go (ltb 0 (j .count))
+  final j e = go (eqb (j .count) 0)
     where
       welded : P (weldedMesh j)
       welded = unfold weldedMesh in solid (j .shape) (jobParts j) (parts (jobParts j) e)
 
-      go : (b : Bool) → P (cond b (transform (folded (j .degrees) (take (j .count) (j .ops))) (weldedMesh j)) (weldedMesh j))
-      go true = k .transformed (folded (j .degrees) (take (j .count) (j .ops))) (weldedMesh j) welded
-      go false = welded
+      go : (b : Bool) → P (cond b (weldedMesh j) (transform (folded (j .degrees) (take (j .count) (j .ops))) (weldedMesh j)))
+      go true = welded
+      go false = k .transformed (folded (j .degrees) (take (j .count) (j .ops))) (weldedMesh j) welded
 
 each : (Q : Soup → Type 0) → ((s : Soup) → Q s) → (ps : List Soup) → EachPart Q ps
 each Q h [] = tt

@@ -82,7 +82,8 @@ point-finite v h i l = record { x = at (3 * i) (omega arith); y = at (3 * i + 1)
     at : (k : ℕ) → k < length v → T (finite (getD v k nan))
     at k b = true-T (finite (getD v k nan)) (finite-at v k b h)
 
-boxes-bounded : (v : List Float) → FitsAll v → every finite v ≡ true → EachUnequal v → (i : ℕ) → i < length v / 6 → Bounded (vertexAt v (2 * i)) (vertexAt v (2 * i + 1))
+boxes-bounded : (v : List Float) → FitsAll v → every finite v ≡ true → EachUnequal v → (i : ℕ) → i < length v / 6
+    → Bounded (vertexAt v (2 * i)) (vertexAt v (2 * i + 1))
 boxes-bounded v f h u i l =
     bounded (vertexAt v (2 * i)) (vertexAt v (2 * i + 1)) (vertexAt-fits v f (2 * i)) (vertexAt-fits v f (2 * i + 1))
     (point-finite v h (2 * i) (omega arith)) (point-finite v h (2 * i + 1) (omega arith)) (u i l)
@@ -95,7 +96,8 @@ turned-or start stop A (inl full) e = absurd (true-T false (sym e ∙ full))
 turned-or start stop A (inr a) e = a
 
 module _ (cylindrical : Bool) (v : List Float) (o : TessellationOptions) (few : o .segments ≤ 1024) where
-  pub parts-balanced : (s : Shape) → FitsSolid s v → shapeFinite s ≡ true → every finite (listOf (itemsOf s) v) ≡ true → Solid s v → EachPart BalancedPart (partsOf cylindrical s v o)
+  pub parts-balanced : (s : Shape) → FitsSolid s v → shapeFinite s ≡ true → every finite (listOf (itemsOf s) v) ≡ true → Solid s v
+      → EachPart BalancedPart (partsOf cylindrical s v o)
   unfolding partsOf shapeFinite itemsOf listOf
   parts-balanced (Box a b) g n l u =
       let t = true-T (vFinite a && vFinite b) n in

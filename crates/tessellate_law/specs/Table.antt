@@ -132,9 +132,9 @@ pub record Figures : Type 0 where
 -- ---- what it takes to compute them
 
 unfoldable meshes : Job → Mesh
-unfolding finalMesh placed weldedMesh jobParts partsOf solidMesh isRotPoly fromParts appendParts append fromSoup weldSoup weldTriangle withPoint firstSight samePoint plusZeroV
-    shapeCs effectiveCs cylindrical boxShape paramBox faces face grid coord vMin vMax minimum maximum sphereSoup sphere
-    isNan lt le eq add sub mul div ofInt ofBits
+unfolding finalMesh placed weldedMesh jobParts partsOf solidMesh isRotPoly fromParts appendParts append fromSoup weldSoup weldTriangle withPoint firstSight
+    samePoint plusZeroV shapeCs effectiveCs cylindrical boxShape paramBox faces face grid coord vMin vMax minimum maximum sphereSoup sphere isNan lt le eq
+    add sub mul div ofInt ofBits
 meshes = finalMesh
 
 unfoldable areas : Mesh → Float
@@ -142,9 +142,9 @@ unfolding area triangleSoup sumOf areaTerm vSub cross norm normSq dot sqrt add s
 areas = area
 
 unfoldable clips : List Float → Clipping
-unfolding triangulatePolygon triangulated passes finished start pass byFound fanned dropped clipped without fan fans counting
-    firstEar firstFlat isEar isFlat earAt crossAt blocked blocks inTriangle turn tolerance scale largest any find ip inx
-    point same maximum absolute isNan eq lt le neg add sub mul ofInt ofBits
+unfolding triangulatePolygon triangulated passes finished start pass byFound fanned dropped clipped without fan fans counting firstEar firstFlat isEar
+    isFlat earAt crossAt blocked blocks inTriangle turn tolerance scale largest any find ip inx point same maximum absolute isNan eq lt le neg add sub mul
+    ofInt ofBits
 clips = triangulatePolygon
 
 unfoldable arcs : ℕ → Float → ℕ
@@ -157,7 +157,8 @@ arcs = arcSegments
 abbrev boxMesh : Mesh
 boxMesh = record {
   vertices = at 0 0 0 ∷ at 0 0 3 ∷ at 0 2 3 ∷ at 0 2 0 ∷ at 1 0 0 ∷ at 1 2 0 ∷ at 1 2 3 ∷ at 1 0 3 ∷ [];
-  triangles = (0, 1, 2) ∷ (0, 2, 3) ∷ (4, 5, 6) ∷ (4, 6, 7) ∷ (0, 4, 7) ∷ (0, 7, 1) ∷ (3, 2, 6) ∷ (3, 6, 5) ∷ (0, 3, 5) ∷ (0, 5, 4) ∷ (1, 7, 6) ∷ (1, 6, 2) ∷ [];
+  triangles =
+      (0, 1, 2) ∷ (0, 2, 3) ∷ (4, 5, 6) ∷ (4, 6, 7) ∷ (0, 4, 7) ∷ (0, 7, 1) ∷ (3, 2, 6) ∷ (3, 6, 5) ∷ (0, 3, 5) ∷ (0, 5, 4) ∷ (1, 7, 6) ∷ (1, 6, 2) ∷ [];
 }
 
 box-final : finalMesh boxJob ≡ boxMesh

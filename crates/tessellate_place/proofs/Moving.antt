@@ -4,7 +4,7 @@ use mathlib.Core.Bool.{Bool, true, false, not, _&&_, cond}
 use mathlib.Core.List.{List, map}
 use Prim.Native.Nat.{ℕ, _*_, _≤_, _<_}
 use lib.ListN.{take}
-use borrow.Author.Tests.{lt-ltb, le-ltb}
+use lib.Dec.{eqb}
 use lib.Ieee.{Float, binary64, lt, ofBits}
 use Rattle.math.specs.declared.Vec3.{Vec3}
 use Rattle.math_matrix.specs.declared.Mat4.{Mat4}
@@ -45,23 +45,24 @@ module _ (degrees : Bool) (ops : List TransformOp) (count : ℕ) (m : Mesh) wher
   abbrev a : Mat4
   a = folded degrees (take count ops)
 
+  -- both, by whether there are no operations
+  refusal-at : {b : Bool} → eqb count 0 ≡ b
+      → placedRefusal degrees ops count m ≡ cond (not b && not (every vFinite (cond b m (transform a m) .vertices))) PointNotFinite Accepted
+  unfolding badPlaced
+  refusal-at e = ap {B = Refusal} (λ (b : Bool). cond (not b && not (every vFinite (cond b m (transform a m) .vertices))) PointNotFinite Accepted) e
+
+  mesh-at : {b : Bool} → eqb count 0 ≡ b → placed degrees ops count m ≡ cond b m (transform a m)
+  unfolding placed
+  mesh-at e = ap {B = Mesh} (λ (b : Bool). cond b m (transform a m)) e
+
   turned-test : (b : Bool) → cond b Accepted PointNotFinite ≡ cond (not b) PointNotFinite Accepted
   turned-test true = refl
   turned-test false = refl
 
-  pub placed-moves : 0 < count → (movedRefusal a m ≡ placedRefusal degrees ops count m) × (transform a m ≡ placed degrees ops count m)
+  pub placed-moves : eqb count 0 ≡ false → (movedRefusal a m ≡ placedRefusal degrees ops count m) × (transform a m ≡ placed degrees ops count m)
   unfolding movedRefusal badPlaced
-  placed-moves h =
-      let e = lt-ltb 0 count h in (
-        turned-test (every vFinite (transform a m .vertices))
-            ∙ sym (ap {B = Refusal} (λ (b : Bool). cond (b && not (every vFinite (cond b (transform a m) m .vertices))) PointNotFinite Accepted) e),
-        sym (ap {B = Mesh} (λ (b : Bool). cond b (transform a m) m) e),
-      )
+  placed-moves e = (turned-test (every vFinite (transform a m .vertices)) ∙ sym (refusal-at e), sym (mesh-at e))
 
-  pub placed-none : count ≤ 0 → (Accepted ≡ placedRefusal degrees ops count m) × (m ≡ placed degrees ops count m)
+  pub placed-none : eqb count 0 ≡ true → (Accepted ≡ placedRefusal degrees ops count m) × (m ≡ placed degrees ops count m)
   unfolding badPlaced
-  placed-none h =
-      let e = le-ltb 0 count h in (
-        sym (ap {B = Refusal} (λ (b : Bool). cond (b && not (every vFinite (cond b (transform a m) m .vertices))) PointNotFinite Accepted) e),
-        sym (ap {B = Mesh} (λ (b : Bool). cond b (transform a m) m) e),
-      )
+  placed-none e = (sym (refusal-at e), sym (mesh-at e))

@@ -44,15 +44,15 @@ fn place(
         (placed degrees ops «op_count» (meshOf (state counts (now (vertices .entry)) (now (triangles .entry)))))
         r (now (vertices .exit)) (now (triangles .exit)) ⌝ }
 {
-    if 0 < op_count {
-        return moved(
-            counts,
-            vertices,
-            triangles,
-            transform::fold(ops, op_count, degrees),
-        );
+    if op_count == 0 {
+        return mesh_made::accepted(counts);
     }
-    mesh_made::accepted(counts)
+    moved(
+        counts,
+        vertices,
+        triangles,
+        transform::fold(ops, op_count, degrees),
+    )
 }
 
 // A welded mesh to its end: a rotated outline is turned outward, then the operations.

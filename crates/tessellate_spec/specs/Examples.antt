@@ -72,12 +72,12 @@ box = boxJob origin corner Cartesian 32 [] 0
 
 -- tessellateOf, with what it takes to compute it
 unfoldable computed : Job → Lent → Ending
-unfolding tessellateOf madeAs refusalOf orElse shortWork jobRefusal badSoup tooFewPlaces badVertex badPlaced placed acceptedAs refusedAs countedPlaces every partsFinite everyFinite
-    drawingRefusal tooManySegments badItems badList numbersBad anglesBad itemsOf listOf shapeFinite vFinite pointWithin pointsWithin within1000 shapeWithin listWithin
-    opsFinite opFinite opsAnglesWithin opAngleWithin finalMesh weldedMesh jobParts partsOf solidMesh isRotPoly fromParts appendParts append fromSoup weldSoup weldTriangle withPoint
-    firstSight samePoint plusZeroV shapeCs effectiveCs cylindrical boxShape paramBox faces face grid coord vMin vMax
-    folded foldFrom opMatrix scaling identity product productRow timesRows fromRows transform moved flip transformPoint along overW determinant detRows
-    minimum maximum absolute isNan lt le eq ne neg add sub mul div ofInt ofBits
+unfolding tessellateOf madeAs refusalOf orElse shortWork jobRefusal badSoup tooFewPlaces badVertex badPlaced placed acceptedAs refusedAs countedPlaces every
+    partsFinite everyFinite drawingRefusal tooManySegments badItems badList numbersBad anglesBad itemsOf listOf shapeFinite vFinite pointWithin pointsWithin
+    within1000 shapeWithin listWithin opsFinite opFinite opsAnglesWithin opAngleWithin finalMesh weldedMesh jobParts partsOf solidMesh isRotPoly fromParts
+    appendParts append fromSoup weldSoup weldTriangle withPoint firstSight samePoint plusZeroV shapeCs effectiveCs cylindrical boxShape paramBox faces face
+    grid coord vMin vMax folded foldFrom opMatrix scaling identity product productRow timesRows fromRows transform moved flip transformPoint along overW
+    determinant detRows minimum maximum absolute isNan lt le eq ne neg add sub mul div ofInt ofBits
 computed = tessellateOf
 
 -- ---- what the slices hold
@@ -121,7 +121,11 @@ work-zero = refl
 refused-zero : tessellateOf box (of 4 5 2)
     ≡ record {
       refusal = NoRoom;
-      state = record { mesh = record { vertices = 0; triangles = 0 }; vertices = float 0 ∷ float 0 ∷ float 0 ∷ float 0 ∷ []; triangles = 0 ∷ 0 ∷ 0 ∷ 0 ∷ 0 ∷ [] };
+      state = record {
+        mesh = record { vertices = 0; triangles = 0 };
+        vertices = float 0 ∷ float 0 ∷ float 0 ∷ float 0 ∷ [];
+        triangles = 0 ∷ 0 ∷ 0 ∷ 0 ∷ 0 ∷ [];
+      };
       work = 0 ∷ 0 ∷ [];
     }
 unfolding computed
@@ -168,7 +172,8 @@ no-angle = refl
 huge : Float
 huge = ofBits binary64 0x7FE1_CCF3_85EB_C8A0
 
-soup-not-finite : tessellateOf (boxJob (new (neg huge) (float 0) (float 0)) (new huge (float 2) (float 3)) Cartesian 32 [] 0) (of 24 36 16) .refusal ≡ PointNotFinite
+soup-not-finite : tessellateOf (boxJob (new (neg huge) (float 0) (float 0)) (new huge (float 2) (float 3)) Cartesian 32 [] 0) (of 24 36 16) .refusal
+    ≡ PointNotFinite
 unfolding computed huge
 soup-not-finite = refl
 
@@ -209,7 +214,8 @@ unfolding computed
 unfolding computed above-1000
 1-before-2 = refl
 
-2-before-5 : tessellateOf (boxJob (new (neg huge) (float 0) (float 0)) (new huge above-1000 (float 3)) Cylindrical 3 [] 0) (of 24 36 16) .refusal ≡ AngleTooLarge
+2-before-5 : tessellateOf (boxJob (new (neg huge) (float 0) (float 0)) (new huge above-1000 (float 3)) Cylindrical 3 [] 0) (of 24 36 16) .refusal
+    ≡ AngleTooLarge
 unfolding computed above-1000 huge
 2-before-5 = refl
 

@@ -16,7 +16,7 @@ use mathlib.Core.Bool.{Bool, not, _&&_, cond}
 use mathlib.Core.List.{List}
 use Prim.Native.Nat.{ℕ}
 use lib.ListN.{take}
-use lib.Dec.{ltb}
+use lib.Dec.{eqb}
 use lib.Ieee.{Float}
 use Rattle.math.specs.Vec.{vFinite}
 use Rattle.transform.specs.declared.TransformOp.{TransformOp}
@@ -72,7 +72,7 @@ weldedMesh j = solidMesh (j .shape) (jobParts j)
 
 -- a mesh under the first operations: none leave it untouched
 unfoldable pub placed : Bool → List TransformOp → ℕ → Mesh → Mesh
-placed degrees ops count m = cond (ltb 0 count) (transform (folded degrees (take count ops)) m) m
+placed degrees ops count m = cond (eqb count 0) m (transform (folded degrees (take count ops)) m)
 
 -- the mesh
 unfoldable pub finalMesh : Job → Mesh
@@ -92,7 +92,7 @@ badSoup j = not (partsFinite (jobParts j))
 -- 5: a coordinate of a vertex under the operations is not finite
 unfoldable pub badPlaced : Bool → List TransformOp → ℕ → Mesh → Bool
 unfolding placed
-badPlaced degrees ops count m = ltb 0 count && not (every vFinite (placed degrees ops count m .vertices))
+badPlaced degrees ops count m = not (eqb count 0) && not (every vFinite (placed degrees ops count m .vertices))
 
 unfoldable pub badVertex : Job → Bool
 unfolding badPlaced

@@ -71,7 +71,8 @@ module _ (j : Job) (n : Lent) where
       sym
       (by-tests false Accepted a b
       ∙ (λ i. later (not (partsFinite (jobParts j))) (places-same j n i))
-      ∙ chosen (not (partsFinite (jobParts j))) (tooFewPlaces (fromParts (jobParts j)) (n .vertices) (n .triangles)) (cond (badVertex j) PointNotFinite Accepted))
+      ∙ chosen (not (partsFinite (jobParts j))) (tooFewPlaces (fromParts (jobParts j)) (n .vertices) (n .triangles))
+      (cond (badVertex j) PointNotFinite Accepted))
     where
       chosen : (b c : Bool) (z : Refusal) → cond b PointNotFinite (cond c NoRoom z) ≡ orElse (cond b PointNotFinite (cond c NoRoom Accepted)) z
       chosen true c z = unfold orElse in refl

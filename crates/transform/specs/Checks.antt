@@ -2,7 +2,7 @@
 use Prim.Native.Nat.{ℕ}
 use mathlib.Core.Bool.{Bool, true, _&&_}
 use mathlib.Core.List.{List}
-use lib.Dec.{leb}
+use lib.Dec.{ltb}
 use lib.Ieee.Scale.{finite}
 use Rattle.slice.specs.Every.{every}
 use Rattle.math_matrix.specs.declared.Row.{Row}
@@ -12,9 +12,9 @@ use Rattle.transform.specs.declared.TransformOp.the-variants.{Translate,
 use Rattle.transform.specs.Angle.{angleRadians, within1000}
 use Rattle.transform.specs.Ops.{mostOps}
 
--- refusal 4: whether there are at most 16 operations
-unfoldable pub opCountWithin : ℕ → Bool
-opCountWithin count = leb count mostOps
+-- refusal 4: more than 16 operations
+abbrev pub tooManyOps : ℕ → Bool
+tooManyOps count = ltb mostOps count
 
 -- whether the four numbers of a row are finite
 unfoldable pub rowFinite : Row → Bool

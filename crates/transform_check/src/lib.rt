@@ -7,11 +7,11 @@ use math_matrix::Row;
 use transform::TransformOp;
 use trig::Radians;
 
-// Whether there are at most 16 operations.
-pub fn op_count_within(count: usize) -> bool
-    ensures { λ w. ⌜ w ≡ Checks.opCountWithin count ⌝ }
+// Whether there are more than 16 operations.
+pub fn too_many_ops(count: usize) -> bool
+    ensures { λ w. ⌜ w ≡ Checks.tooManyOps count ⌝ }
 {
-    count <= 16
+    16 < count
 }
 
 // Whether the four numbers of a row are finite.

@@ -43,7 +43,8 @@ at-inf s = refl
 reduced-same : (x y q : Float) → Same x y → Same (reduced x q) (reduced y q)
 unfolding reduced
 reduced-same x y q h =
-    sub-same binary64 (sub binary64 (sub binary64 x (mul binary64 q constA)) (mul binary64 q constB)) (sub binary64 (sub binary64 y (mul binary64 q constA)) (mul binary64 q constB))
+    sub-same binary64 (sub binary64 (sub binary64 x (mul binary64 q constA)) (mul binary64 q constB))
+    (sub binary64 (sub binary64 y (mul binary64 q constA)) (mul binary64 q constB))
     (mul binary64 q constC) (mul binary64 q constC)
     (sub-same binary64 (sub binary64 x (mul binary64 q constA)) (sub binary64 y (mul binary64 q constA)) (mul binary64 q constB) (mul binary64 q constB)
     (sub-same binary64 x y (mul binary64 q constA) (mul binary64 q constA) h (same-refl (mul binary64 q constA))) (same-refl (mul binary64 q constB)))

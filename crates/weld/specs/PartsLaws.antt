@@ -19,7 +19,8 @@ unfolding partsFinite appendParts
 parts-none h R = record { ready = R; vlong = refl; tlong = refl; wlong = refl; finite = sym (and-true (h .st .finite)); rep = λ e D Q. Q }
 
 -- one soup was welded, and a new part begins
-pub parts-one : (soup : Soup) (h : Held) (w r : Welder) (vs : List Float) (ts ws : List ℕ) → Runs soup h (held w vs ts ws) → Parted w r → PartsRun (soup ∷ []) h (held r vs ts ws)
+pub parts-one : (soup : Soup) (h : Held) (w r : Welder) (vs : List Float) (ts ws : List ℕ) → Runs soup h (held w vs ts ws) → Parted w r
+    → PartsRun (soup ∷ []) h (held r vs ts ws)
 unfolding partsFinite appendParts fromSoup
 parts-one soup h w r vs ts ws R P =
     record {
@@ -54,7 +55,8 @@ pub parts-as : {xs ys : List Soup} {h k : Held} → xs ≡ ys → PartsRun xs h 
 parts-as {h} {k} e R = subst (λ (s : List Soup). PartsRun s h k) e R
 
 -- all parts were welded, from an empty mesh
-pub parts-welded : (parts : List Soup) (r : Welder) (vs : List Float) (ts ws : List ℕ) (k : Held) → Begun r vs ws → PartsRun parts (held r vs ts ws) k → AllWelded parts k
+pub parts-welded : (parts : List Soup) (r : Welder) (vs : List Float) (ts ws : List ℕ) (k : Held) → Begun r vs ws → PartsRun parts (held r vs ts ws) k
+    → AllWelded parts k
 unfolding fromParts
 parts-welded parts r vs ts ws k B P = record {
   finite = P .finite ∙ ap {B = Bool} (λ (b : Bool). b && partsFinite parts) (B .finite);

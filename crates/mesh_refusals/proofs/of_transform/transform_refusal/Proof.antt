@@ -23,15 +23,15 @@ returns c =
     let s = state (a .mesh) (now (a .vertices)) (now (a .triangles)) in
     transform-bad (a .ops) (a .op-count) (a .degrees) s (sym (c .before .bad-mesh .ensures) ∙ c .if1 .taken)
 
-op-count-within-requires : tie.Need-op-count-within-requires
-op-count-within-requires c κs = search needs
+too-many-ops-requires : tie.Need-too-many-ops-requires
+too-many-ops-requires c κs = search needs
 
 returns-2 : tie.Need-returns-2
 returns-2 c =
     let a = c .before .before .before .before .before .before .args in
     let s = state (a .mesh) (now (a .vertices)) (now (a .triangles)) in
     let g : badMesh s ≡ false = sym (c .before .before .before .bad-mesh .ensures) ∙ c .before .before .if1 .left in
-    let k = sym (c .before .op-count-within .ensures) ∙ not-true _ (c .if2 .taken) in
+    let k = sym (c .before .too-many-ops .ensures) ∙ c .if2 .taken in
     transform-long (a .ops) (a .op-count) (a .degrees) s g k
 
 mul-all-bounded : tie.Need-mul-all-bounded
@@ -71,7 +71,7 @@ returns-3 c =
     let s = state (a .mesh) (now (a .vertices)) (now (a .triangles)) in
     let used = take (a .op-count) (a .ops) in
     let g : badMesh s ≡ false = sym (c .before .before .before .before .before .before .before .bad-mesh .ensures) ∙ c .before .before .before .before .before .before .if1 .left in
-    let k = sym (c .before .before .before .before .before .op-count-within .ensures) ∙ not-false _ (c .before .before .before .before .if2 .left) in
+    let k = sym (c .before .before .before .before .before .too-many-ops .ensures) ∙ c .before .before .before .before .if2 .left in
     transform-not-finite (a .ops) (a .op-count) (a .degrees) s g k (finite-tests s used (c .before .before .all-finite .ensures) (c .before .ops-finite .ensures) (c .if3 .taken))
 
 move-refusal-requires : tie.Need-move-refusal-requires
@@ -90,7 +90,7 @@ returns-4 c =
     let s = state (a .mesh) (now (a .vertices)) (now (a .triangles)) in
     let used = take (a .op-count) (a .ops) in
     let g : badMesh s ≡ false = sym (c .before .before .before .before .before .before .before .before .bad-mesh .ensures) ∙ c .before .before .before .before .before .before .before .if1 .left in
-    let k = sym (c .before .before .before .before .before .before .op-count-within .ensures) ∙ not-false _ (c .before .before .before .before .before .if2 .left) in
+    let k = sym (c .before .before .before .before .before .before .too-many-ops .ensures) ∙ c .before .before .before .before .before .if2 .left in
     transform-rest (a .ops) (a .op-count) (a .degrees) s g k (finite-tests s used (c .before .before .before .all-finite .ensures) (c .before .before .ops-finite .ensures) (c .before .if3 .left)) (c .move-refusal .result) (c .move-refusal .ensures)
 
 pub transform-refusal-spec : {M : Type 1} → statement M
@@ -99,7 +99,7 @@ transform-refusal-spec =
     (tie.spec
     bad-mesh-requires
     returns
-    op-count-within-requires
+    too-many-ops-requires
     returns-2
     mul-all-bounded
     all-bounded-requires

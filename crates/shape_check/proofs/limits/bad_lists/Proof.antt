@@ -2,7 +2,7 @@
 use borrow.Author.Needs.{needs}
 use mathlib.Core.Path.{ap, _∙_}
 use mathlib.Core.Bool.{Bool, _||_}
-use lib.Dec.{ltb}
+use Rattle.transform.specs.Checks.{tooManyOps}
 use Rattle.shape.specs.declared.Items.{Items}
 use Rattle.shape.specs.Drawing.{badList}
 use Rattle.shape_check.proofs.limits.bad_lists.Statement.{statement}
@@ -14,11 +14,15 @@ items-of-requires c κs = search needs
 bad-list-requires : tie.Need-bad-list-requires
 bad-list-requires c κs = search needs
 
+too-many-ops-requires : tie.Need-too-many-ops-requires
+too-many-ops-requires c κs = tt
+
 returns : tie.Need-returns
 returns c =
-    let args = c .before .before .args in
-    ap (λ (t : Bool). t || ltb 16 (args .op-count))
-    (c .bad-list .ensures ∙ ap (λ (k : Items). badList k (args .n)) (c .before .items-of .ensures))
+    let args = c .before .before .before .args in
+    ap (λ (t : Bool). c .before .bad-list .result || t) (c .too-many-ops .ensures)
+    ∙ ap (λ (t : Bool). t || tooManyOps (args .op-count))
+    (c .before .bad-list .ensures ∙ ap (λ (k : Items). badList k (args .n)) (c .before .before .items-of .ensures))
 
 pub bad-lists-spec : {M : Type 1} → statement M
-bad-lists-spec = tie.close (tie.spec items-of-requires bad-list-requires returns)
+bad-lists-spec = tie.close (tie.spec items-of-requires bad-list-requires too-many-ops-requires returns)
