@@ -6,7 +6,7 @@ use Prim.Native.Nat.{ℕ}
 use lib.Dec.{eqb}
 use Rattle.slice_text.specs.Ascii.{ascii}
 use Rattle.slice_text.specs.Line.{Line, Puts}
-use Rattle.figures_text.specs.Lists.{upTo, triangleAt}
+use Rattle.figures_points.specs.Lists.{upTo, triangleAt}
 use Rattle.figures_lines.specs.Figures.{trianglesOf, borderOf}
 
 pub closed-text : (b : Bool) {l m : Line} → b ≡ true → Puts (ascii ", closed\n") l m → Puts (borderOf b) l m

@@ -10,7 +10,7 @@ use Rattle.slice_text.specs.Ascii.{ascii}
 use Rattle.slice_text.specs.Numbers.{decimalOf}
 use Rattle.figures_text.specs.Counts.{measuredOf}
 use Rattle.figures_text.specs.Floats.{floatBitsOf}
-use Rattle.figures_text.specs.Lists.{upTo, pointAt, cornerAt, triangleAt}
+use Rattle.figures_points.specs.Lists.{upTo, pointAt, cornerAt, triangleAt}
 
 -- the segments of an arc at 32 segments a turn, with its span by name
 abbrev pub arcOf : List ℕ → ℕ → List ℕ

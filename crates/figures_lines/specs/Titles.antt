@@ -6,7 +6,7 @@ use Rattle.math.specs.declared.Vec3.{Vec3}
 use Rattle.slice_text.specs.Ascii.{ascii}
 use Rattle.slice_text.specs.Numbers.{decimalOf}
 use Rattle.figures_text.specs.Floats.{floatBitsOf}
-use Rattle.figures_text.specs.Lists.{pointOf}
+use Rattle.figures_points.specs.Lists.{pointOf}
 
 -- a box from the origin
 abbrev pub boxOf : Vec3 → List ℕ

@@ -1,9 +1,9 @@
 // What a drawn mesh is: open or closed, its measures, its first points and triangles.
 ghost use Rattle.figures_lines.specs.Figures.{borderOf, measuresOf, firstOf};
 ghost use Rattle.slice_text.specs.Line.{line, Puts};
+use figures_points::put_points;
+use figures_points::put_triangles;
 use figures_text::put_measured;
-use figures_text::put_points;
-use figures_text::put_triangles;
 use mesh_measures::Measured;
 use slice_text::put;
 

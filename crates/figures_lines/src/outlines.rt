@@ -1,9 +1,9 @@
 // Outlines: cleaning and clipping.
 ghost use Rattle.figures_lines.specs.Figures.{cornersOf, cleanedOf, removedOf, trianglesOf, clippedOf};
 ghost use Rattle.slice_text.specs.Line.{line, Puts};
-use figures_text::put_corners;
+use figures_points::put_corners;
+use figures_points::put_triangles;
 use figures_text::put_count;
-use figures_text::put_triangles;
 use slice_text::put;
 
 // The corners of an outline, two floats each.

@@ -1,9 +1,9 @@
 // What is drawn, before the counts.
 ghost use Rattle.figures_lines.specs.Titles.{boxOf, finenessOf, sphereOf, cylinderOf, shellOf, turnedBoxOf};
 ghost use Rattle.slice_text.specs.Line.{line, Puts};
+use figures_points::put_point;
 use figures_text::put_count;
 use figures_text::put_float;
-use figures_text::put_point;
 use math::Vec3;
 use slice_text::put;
 

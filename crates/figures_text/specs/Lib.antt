@@ -1,5 +1,4 @@
 -- What the contracts of `figures_text` cite.
 pub mod Counts
 pub mod Floats
-pub mod Lists
 pub mod Examples

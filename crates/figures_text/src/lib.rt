@@ -1,15 +1,10 @@
-// Text of floats, points, corners, triangles, counts and measures, put into a lent slice of bytes from place at on, as far as it fits.
+// Text of floats, counts and measures, put into a lent slice of bytes from place at on, as far as it fits.
 // Each function answers the place after its text.
 mod counts;
 mod floats;
-mod lists;
 
 pub use counts::put_count;
 pub use counts::put_counts;
 pub use counts::put_measured;
 pub use floats::put_float;
 pub use floats::put_float_bits;
-pub use lists::put_corners;
-pub use lists::put_point;
-pub use lists::put_points;
-pub use lists::put_triangles;

@@ -1,10 +1,10 @@
--- `figures_text::lists::put_point_at` meets its contract. Assumes nothing.
+-- `figures_points::put_point_at` meets its contract. Assumes nothing.
 use borrow.Author.Tests.{le-leb, lt-leb}
 use Rattle.slice_text.specs.LineLaws.{then}
-use Rattle.figures_text.proofs.Cases.{no-point, point-text}
+use Rattle.figures_points.proofs.Cases.{no-point, point-text}
 use borrow.Author.Needs.{needs}
-use Rattle.figures_text.proofs.lists.put_point_at.Statement.{statement}
-use Rattle.figures_text.proofs.lists.put_point_at.Tie as tie
+use Rattle.figures_points.proofs.put_point_at.Statement.{statement}
+use Rattle.figures_points.proofs.put_point_at.Tie as tie
 
 returns : tie.Need-returns
 returns c = no-point _ _ (le-leb _ _ (c .if1 .taken)) _

@@ -1,10 +1,10 @@
--- `figures_text::lists::put_triangle_at` meets its contract. Assumes nothing.
+-- `figures_points::put_triangle_at` meets its contract. Assumes nothing.
 use borrow.Author.Tests.{le-leb, lt-leb, eq-eqb, ne-eqb}
 use Rattle.slice_text.specs.LineLaws.{then}
-use Rattle.figures_text.proofs.Cases.{no-triangle, first-triangle, next-triangle}
+use Rattle.figures_points.proofs.Cases.{no-triangle, first-triangle, next-triangle}
 use borrow.Author.Needs.{needs}
-use Rattle.figures_text.proofs.lists.put_triangle_at.Statement.{statement}
-use Rattle.figures_text.proofs.lists.put_triangle_at.Tie as tie
+use Rattle.figures_points.proofs.put_triangle_at.Statement.{statement}
+use Rattle.figures_points.proofs.put_triangle_at.Tie as tie
 
 returns : tie.Need-returns
 returns c = no-triangle _ _ (le-leb _ _ (c .if1 .taken)) _

@@ -1,4 +1,4 @@
--- `figures_text::lists::put_corners` meets its contract. Assumes nothing.
+-- `figures_points::put_points` meets its contract. Assumes nothing.
 use native.Mathlib.Omega.{arith}
 use mathlib.Core.Path.{_≡_, refl, ap}
 use denote.Ref.{now}
@@ -6,14 +6,14 @@ use Prim.Native.Nat.{ℕ, _≤_, _-_}
 use lib.ListN.{length}
 use Rattle.slice_text.specs.Line.{line, Puts}
 use Rattle.slice_text.specs.LineLaws.{puts-same}
-use Rattle.figures_text.specs.Lists.{upTo, cornerAt}
-use Rattle.figures_text.proofs.Cases.{no-item, next-item}
+use Rattle.figures_points.specs.Lists.{upTo, pointAt}
+use Rattle.figures_points.proofs.Cases.{no-item, next-item}
 use borrow.Author.Needs.{needs}
-use Rattle.figures_text.proofs.lists.put_corners.Statement.{statement}
-use Rattle.figures_text.proofs.lists.put_corners.Tie as tie
+use Rattle.figures_points.proofs.put_points.Statement.{statement}
+use Rattle.figures_points.proofs.put_points.Tie as tie
 
 abbrev Inv-loop : tie.InvT-loop
-Inv-loop out₀ at v n to₀ i₀ out to i = (i ≤ n) × (length out ≡ length out₀) × Puts (upTo i (cornerAt v)) (line out₀ at) (line out to)
+Inv-loop out₀ at v n to₀ i₀ out to i = (i ≤ n) × (length out ≡ length out₀) × Puts (upTo i (pointAt v)) (line out₀ at) (line out to)
 
 abbrev μ-loop : tie.MeasureT-loop
 μ-loop out₀ at v n to₀ i₀ out to i = n - i
@@ -21,8 +21,8 @@ abbrev μ-loop : tie.MeasureT-loop
 loop-holds : tie.Need-loop-holds Inv-loop μ-loop
 loop-holds c = (omega arith, refl, no-item _ _)
 
-put-corner-at-requires : tie.Need-put-corner-at-requires Inv-loop μ-loop
-put-corner-at-requires c κs = search needs
+put-point-at-requires : tie.Need-put-point-at-requires Inv-loop μ-loop
+put-point-at-requires c κs = search needs
 
 add-i : tie.Need-add-i Inv-loop μ-loop
 add-i c = omega arith
@@ -33,7 +33,7 @@ loop-less c = omega arith
 loop-again : tie.Need-loop-again Inv-loop μ-loop
 loop-again c =
     let l = c .before .before .before .before .before .loop in
-    (omega arith, omega arith, next-item _ (l .i) (l .inv .2) (c .before .before .put-corner-at .ensures))
+    (omega arith, omega arith, next-item _ (l .i) (l .inv .2) (c .before .before .put-point-at .ensures))
 
 same-length : tie.Need-same-length Inv-loop μ-loop
 same-length c = c .before .loop .inv .1
@@ -43,16 +43,16 @@ returns c =
     let l = c .before .loop in
     let a = c .before .before .before .before .args in
     let e : l .i ≡ a .n = omega arith in
-    puts-same (ap (λ (k : ℕ). upTo k (cornerAt (now (a .v)))) e) (l .inv .2)
+    puts-same (ap (λ (k : ℕ). upTo k (pointAt (now (a .v)))) e) (l .inv .2)
 
-pub put-corners-spec : {M : Type 1} → statement M
-put-corners-spec =
+pub put-points-spec : {M : Type 1} → statement M
+put-points-spec =
     tie.close
     (tie.spec
     Inv-loop
     μ-loop
     loop-holds
-    put-corner-at-requires
+    put-point-at-requires
     add-i
     loop-less
     loop-again

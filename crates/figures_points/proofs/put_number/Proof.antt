@@ -1,8 +1,8 @@
--- `figures_text::lists::put_number` meets its contract. Assumes nothing.
+-- `figures_points::put_number` meets its contract. Assumes nothing.
 use Rattle.slice_text.specs.LineLaws.{then}
 use borrow.Author.Needs.{needs}
-use Rattle.figures_text.proofs.lists.put_number.Statement.{statement}
-use Rattle.figures_text.proofs.lists.put_number.Tie as tie
+use Rattle.figures_points.proofs.put_number.Statement.{statement}
+use Rattle.figures_points.proofs.put_number.Tie as tie
 
 slice-aggregate-put : tie.Need-slice-aggregate-put
 slice-aggregate-put c = search needs

@@ -1,8 +1,8 @@
--- `figures_text::lists::put_triangle` meets its contract. Assumes nothing.
+-- `figures_points::put_triangle` meets its contract. Assumes nothing.
 use Rattle.slice_text.specs.LineLaws.{then}
 use borrow.Author.Needs.{needs}
-use Rattle.figures_text.proofs.lists.put_triangle.Statement.{statement}
-use Rattle.figures_text.proofs.lists.put_triangle.Tie as tie
+use Rattle.figures_points.proofs.put_triangle.Statement.{statement}
+use Rattle.figures_points.proofs.put_triangle.Tie as tie
 
 put-number-requires : tie.Need-put-number-requires
 put-number-requires c κs = search needs

@@ -1,7 +1,8 @@
-// Points, corners and triangles.
-ghost use Rattle.figures_text.specs.Lists.{upTo, pointOf, pointAt, cornerOf, cornerAt, nextOf, numberAfterBlank, triangleOf, triangleAt};
+// Text of points, corners and triangles, put into a lent slice of bytes from place at on, as far as it fits.
+// Each function answers the place after its text.
+ghost use Rattle.figures_points.specs.Lists.{upTo, pointOf, pointAt, cornerOf, cornerAt, nextOf, numberAfterBlank, triangleOf, triangleAt};
 ghost use Rattle.slice_text.specs.Line.{line, Puts};
-use crate::floats::put_float;
+use figures_text::put_float;
 use math::Vec3;
 use slice_text::put;
 use slice_text::put_decimal;

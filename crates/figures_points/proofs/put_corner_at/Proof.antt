@@ -1,9 +1,9 @@
--- `figures_text::lists::put_corner_at` meets its contract. Assumes nothing.
+-- `figures_points::put_corner_at` meets its contract. Assumes nothing.
 use borrow.Author.Tests.{le-leb, lt-leb}
-use Rattle.figures_text.proofs.Cases.{no-corner, corner-text}
+use Rattle.figures_points.proofs.Cases.{no-corner, corner-text}
 use borrow.Author.Needs.{needs}
-use Rattle.figures_text.proofs.lists.put_corner_at.Statement.{statement}
-use Rattle.figures_text.proofs.lists.put_corner_at.Tie as tie
+use Rattle.figures_points.proofs.put_corner_at.Statement.{statement}
+use Rattle.figures_points.proofs.put_corner_at.Tie as tie
 
 returns : tie.Need-returns
 returns c = no-corner _ _ (le-leb _ _ (c .if1 .taken)) _

@@ -1,4 +1,4 @@
--- `figures_text::lists::put_triangles` meets its contract. Assumes nothing.
+-- `figures_points::put_triangles` meets its contract. Assumes nothing.
 use native.Mathlib.Omega.{arith}
 use mathlib.Core.Path.{_≡_, refl, ap}
 use denote.Ref.{now}
@@ -6,11 +6,11 @@ use Prim.Native.Nat.{ℕ, _≤_, _-_}
 use lib.ListN.{length}
 use Rattle.slice_text.specs.Line.{line, Puts}
 use Rattle.slice_text.specs.LineLaws.{puts-same}
-use Rattle.figures_text.specs.Lists.{upTo, triangleAt}
-use Rattle.figures_text.proofs.Cases.{no-item, next-item}
+use Rattle.figures_points.specs.Lists.{upTo, triangleAt}
+use Rattle.figures_points.proofs.Cases.{no-item, next-item}
 use borrow.Author.Needs.{needs}
-use Rattle.figures_text.proofs.lists.put_triangles.Statement.{statement}
-use Rattle.figures_text.proofs.lists.put_triangles.Tie as tie
+use Rattle.figures_points.proofs.put_triangles.Statement.{statement}
+use Rattle.figures_points.proofs.put_triangles.Tie as tie
 
 abbrev Inv-loop : tie.InvT-loop
 Inv-loop out₀ at t n to₀ i₀ out to i = (i ≤ n) × (length out ≡ length out₀) × Puts (upTo i (triangleAt t)) (line out₀ at) (line out to)

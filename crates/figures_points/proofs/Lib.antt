@@ -1,0 +1,2 @@
+-- What several proofs of `figures_points` cite.
+mod Cases

@@ -1,0 +1,2 @@
+-- What the contracts of `figures_points` cite.
+pub mod Lists
