@@ -52,45 +52,8 @@ fn weld_tabled(
     )
 }
 
-// The grid of a sphere of at most 64 rings and segments. Its tables are small, so that clearing them takes little time.
-fn weld_small_sphere(
-    vertices: &mut [f64],
-    triangles: &mut [u32],
-    work: &mut [u32],
-    w: Welder,
-    c: Vec3,
-    r: f64,
-    nt: usize,
-    np: usize,
-    flip: bool,
-) -> Welder
-    requires { ⌜ Ready (held w (now vertices) (now triangles) (now work)) ⌝ }
-    requires { ⌜ (3 ≤ np) × (nt ≤ 64) × (np ≤ 64) ⌝ }
-    ensures { λ k. ⌜ Runs (grid nt np flip (Sphere.spherePoint c r nt np))
-        (held w (now (vertices .entry)) (now (triangles .entry)) (now (work .entry)))
-        (held k (now (vertices .exit)) (now (triangles .exit)) (now (work .exit))) ⌝ }
-{
-    let mut rows = [0.0; 130];
-    let mut cols = [0.0; 130];
-    let mut numbers = [0usize; 65];
-    weld_tabled(
-        vertices,
-        triangles,
-        work,
-        w,
-        c,
-        r,
-        nt,
-        np,
-        flip,
-        &mut rows,
-        &mut cols,
-        &mut numbers,
-    )
-}
-
-// The grid of any sphere.
-fn weld_large_sphere(
+// The grid of a sphere. Few rings and segments have small arrays, so that clearing them takes little time.
+fn weld_skin(
     vertices: &mut [f64],
     triangles: &mut [u32],
     work: &mut [u32],
@@ -107,6 +70,25 @@ fn weld_large_sphere(
         (held w (now (vertices .entry)) (now (triangles .entry)) (now (work .entry)))
         (held k (now (vertices .exit)) (now (triangles .exit)) (now (work .exit))) ⌝ }
 {
+    if shape::larger(nt, np) <= 64 {
+        let mut rows = [0.0; 130];
+        let mut cols = [0.0; 130];
+        let mut numbers = [0usize; 65];
+        return weld_tabled(
+            vertices,
+            triangles,
+            work,
+            w,
+            c,
+            r,
+            nt,
+            np,
+            flip,
+            &mut rows,
+            &mut cols,
+            &mut numbers,
+        );
+    }
     let mut rows = [0.0; 2050];
     let mut cols = [0.0; 2050];
     let mut numbers = [0usize; 1025];
@@ -148,10 +130,7 @@ pub fn weld_sphere(
     }
     let nt = shape::larger(rings, 2);
     let np = shape::larger(segments, 3);
-    if shape::larger(nt, np) <= 64 {
-        return weld_small_sphere(vertices, triangles, work, w, c, r, nt, np, flip);
-    }
-    weld_large_sphere(vertices, triangles, work, w, c, r, nt, np, flip)
+    weld_skin(vertices, triangles, work, w, c, r, nt, np, flip)
 }
 
 // A sphere's two skins. The inner one is turned round.
