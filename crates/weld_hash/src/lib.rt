@@ -37,9 +37,9 @@ fn middle(t: u64) -> u64
 
 // The bucket of a point. Coordinates that differ in their last bits only have far buckets too: each bit reaches every bit.
 // Coordinates can be chosen to collide: the chains are then long, and the number that is found is the same.
-fn bucket_of(p: Vec3, places: usize) -> usize
-    requires { ⌜ (0 < places) × (places < 2 ^ 32) × Clean p ⌝ }
-    ensures { λ r. ⌜ (r ≡ bucketOf places p) × (r < places) ⌝ }
+pub fn bucket_of(p: Vec3, places: usize) -> usize
+    requires { ⌜ (places < 2 ^ 32) × Clean p ⌝ }
+    ensures { λ r. ⌜ (r ≡ bucketOf places p) × (0 < places → r < places) ⌝ }
 {
     let a = spread(f64::to_bits(p.x), 435250745, 462664305);
     let b = spread(f64::to_bits(p.y), 475705909, 453967447);
@@ -101,20 +101,21 @@ pub fn index(vertices: &[f64], work: &mut [u32], places: usize, base: usize, cou
 }
 
 // The number of p: that of the first of the vertices from `base` below `count` that equals it; or `count`, with which it is
-// written; or `count + 1` where no place is left. All these vertices are in their buckets, and a new one is put there.
+// written; or `count + 1` where no place is left. All these vertices are in their buckets, and a new one is put there. The caller has
+// worked out the bucket of p.
 pub fn number_of(
     vertices: &mut [f64],
     work: &mut [u32],
     places: usize,
     base: usize,
     count: usize,
+    bucket: usize,
     p: Vec3,
 ) -> usize
     requires { ⌜ Distinct (now vertices) places base count × Chained (now vertices) (now work) places base count ⌝ }
-    requires { ⌜ (0 < places) × (places < 2 ^ 32) × Clean p ⌝ }
+    requires { ⌜ (bucket ≡ bucketOf places p) × (bucket < places) × (places < 2 ^ 32) × Clean p ⌝ }
     ensures { λ r. ⌜ Placing places base count p (now (vertices .entry)) (now (work .entry)) r (now (vertices .exit)) (now (work .exit)) ⌝ }
 {
-    let bucket = bucket_of(p, places);
     let found = find(vertices, work, places, base, count, bucket, p);
     match found {
         Found::At(m) => m,

@@ -25,7 +25,7 @@ use Rattle.weld_order.specs.Rows.{among}
 use Rattle.weld.specs.Rep.{Held, held, InRow, indexed, Linked, Holds, Over, Rep}
 use Rattle.weld.specs.States.{shut, more, rowSeen, settled, Foresees}
 use Rattle.weld_triangle.specs.declared.Welded.{Welded}
-use Rattle.weld_triangle.specs.Steps.{withVertex, PointRuns}
+use Rattle.weld_triangle.specs.Steps.{withVertex, BucketOrNone, PointRuns}
 use Rattle.weld.proofs.Places.{take-three, take-vertex, flatV-at, places-limit, places-long}
 use Rattle.weld_vertex.proofs.Clean.{clean-self}
 use Rattle.weld_vertex.proofs.Places.{put-at, put-before}
@@ -90,6 +90,18 @@ grown D S p e =
 
 pub three-more : (n : ℕ) → 3 * (n + 1) ≡ 3 * n + 3
 three-more n = omega arith
+
+-- ---- buckets that are worked out beforehand
+pub few-places : {w : Welder} {vs : List Float} {ws : List ℕ} → Linked w vs ws → w .places < 2 ^ 32
+few-places {w} {vs} {ws} L = omega (arith, places-limit vs, L .places)
+
+pub no-bucket : (places : ℕ) (p : Vec3) → places < 2 ^ 32 → BucketOrNone places p 4294967296
+no-bucket places p h l = omega arith
+
+-- the places stay as many as the slice of vertices has, and so a bucket stays that of its point
+pub bucket-stays : {w r : Welder} {vs vs′ : List Float} {ws ws′ : List ℕ} (p : Vec3) (b : ℕ) → Linked w vs ws → Linked r vs′ ws′ → length vs′ ≡ length vs → b ≡ bucketOf (w .places) p
+    → BucketOrNone (r .places) p b
+bucket-stays {w} {r} {vs} {vs′} p b L M e h l = h ∙ ap (λ (n : ℕ). bucketOf n p) (L .places ∙ places-long vs vs′ (sym e) ∙ sym (M .places))
 
 -- ---- the cases of `weld_point`
 module _ (w : Welder) (vs : List Float) (ws : List ℕ) (L : Linked w vs ws) (p : Vec3) where

@@ -8,7 +8,7 @@ use lib.Ieee.{Float}
 use Rattle.math.specs.declared.Vec3.{Vec3}
 use Rattle.mesh_balance_spec.specs.Soup.{Tri}
 use Rattle.mesh_spec.specs.Mesh.{Mesh, firstSight, withPoint, distinct}
-use Rattle.weld_hash.specs.Hash.{FirstAt}
+use Rattle.weld_hash.specs.Hash.{bucketOf, FirstAt}
 use Rattle.weld.specs.declared.Welder.{Welder}
 use Rattle.slice.specs.Every.{placesOf}
 use Rattle.weld.specs.Rep.{Held, held, rowOf, Linked, Ready, Rep}
@@ -29,6 +29,10 @@ weldPoints S a b c =
     let B = withVertex A b in
     let C = withVertex B c in
     withTriangle C (firstSight (S .vertices) a, firstSight (A .vertices) b, firstSight (B .vertices) c)
+
+-- b is the bucket of p, or none: as many as the places or more
+abbrev pub BucketOrNone : ℕ → Vec3 → ℕ → Type 0
+BucketOrNone places p b = b < places → b ≡ bucketOf places p
 
 -- one point was welded. Numbers in the slices count the vertices of the parts before, too.
 pub record PointRuns (p : Vec3) (w : Welder) (vs : List Float) (ws : List ℕ) (r : Welded) (vs′ : List Float) (ws′ : List ℕ) : Type 0 where

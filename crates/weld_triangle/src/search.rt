@@ -1,22 +1,23 @@
 // The search for a point among the vertices of its part. Those that came row by row go into the chains first.
 ghost use mathlib.Core.Path.{_≡_};
 ghost use mathlib.Core.Bool.{true, false};
-ghost use Prim.Native.Nat.{_<_};
+ghost use Prim.Native.Nat.{_<_, _^_};
 ghost use Rattle.weld_vertex.specs.Points.{Clean};
+ghost use Rattle.weld_hash.specs.Hash.{bucketOf};
 ghost use Rattle.weld.specs.Rep.{Linked};
 ghost use Rattle.weld.specs.States.{settled};
-ghost use Rattle.weld_triangle.specs.Steps.{PointRuns};
+ghost use Rattle.weld_triangle.specs.Steps.{BucketOrNone, PointRuns};
 use crate::Welded;
 use math::Vec3;
 use weld::Welder;
 
-// Gives a point its number by a search.
-pub fn search(vertices: &mut [f64], work: &mut [u32], w: Welder, p: Vec3) -> Welded
-    requires { ⌜ Linked w (now vertices) (now work) × Clean p × (w .room ≡ true) × (w .base < w .count) ⌝ }
+// Gives a point its number by a search. Where `bucket` is below the places, it is the bucket of p.
+pub fn search(vertices: &mut [f64], work: &mut [u32], w: Welder, p: Vec3, bucket: usize) -> Welded
+    requires { ⌜ Linked w (now vertices) (now work) × Clean p × (w .room ≡ true) × (w .base < w .count) × BucketOrNone (w .places) p bucket ⌝ }
     ensures { λ r. ⌜ PointRuns p w (now (vertices .entry)) (now (work .entry)) r (now (vertices .exit)) (now (work .exit)) ⌝ }
 {
     let s = settle(vertices, work, w);
-    find(vertices, work, s, p)
+    find(vertices, work, s, p, bucket)
 }
 
 // Puts all vertices of this part into the chains.
@@ -32,13 +33,26 @@ fn settle(vertices: &[f64], work: &mut [u32], w: Welder) -> Welder
     weld::settled(w)
 }
 
+// The bucket of p, which is worked out unless it is known.
+fn bucket_at(p: Vec3, places: usize, bucket: usize) -> usize
+    requires { ⌜ (0 < places) × (places < 2 ^ 32) × Clean p × BucketOrNone places p bucket ⌝ }
+    ensures { λ r. ⌜ (r ≡ bucketOf places p) × (r < places) ⌝ }
+{
+    if bucket < places {
+        return bucket;
+    }
+    weld_hash::bucket_of(p, places)
+}
+
 // The same as `search`, where all vertices of this part are in the chains.
-fn find(vertices: &mut [f64], work: &mut [u32], w: Welder, p: Vec3) -> Welded
-    requires { ⌜ Linked w (now vertices) (now work) × Clean p × (w .room ≡ true) × (w .base < w .count) × (w .ordered ≡ false) ⌝ }
+fn find(vertices: &mut [f64], work: &mut [u32], w: Welder, p: Vec3, bucket: usize) -> Welded
+    requires { ⌜ Linked w (now vertices) (now work) × Clean p × (w .room ≡ true) × (w .base < w .count) × BucketOrNone (w .places) p bucket ⌝ }
+    requires { ⌜ w .ordered ≡ false ⌝ }
     ensures { λ r. ⌜ PointRuns p w (now (vertices .entry)) (now (work .entry)) r (now (vertices .exit)) (now (work .exit)) ⌝ }
 {
     let count = w.count;
-    let number = weld_hash::number_of(vertices, work, w.places, w.base, count, p);
+    let at = bucket_at(p, w.places, bucket);
+    let number = weld_hash::number_of(vertices, work, w.places, w.base, count, at, p);
     if number < count {
         return Welded { number, st: w };
     }

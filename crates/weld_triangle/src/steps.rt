@@ -3,13 +3,17 @@ ghost use Prim.Native.Nat.{_≤_, _<_, _^_};
 ghost use Rattle.weld_vertex.specs.Points.{Clean};
 ghost use Rattle.slice.specs.Every.{placesOf};
 ghost use Rattle.weld.specs.Rep.{held, Linked, Ready};
-ghost use Rattle.weld_triangle.specs.Steps.{PointRuns, TriangleRuns, PointsRun};
+ghost use Rattle.weld_triangle.specs.Steps.{BucketOrNone, PointRuns, TriangleRuns, PointsRun};
 use crate::Welded;
 use crate::search;
 use math::Vec3;
 use weld::Welder;
 
-// One turn of from_soup's loop after `+ 0.0`: the three points get numbers, and the triangle stays where the numbers differ.
+// No bucket: more than there are places.
+const NO_BUCKET: usize = 4294967296;
+
+// One turn of from_soup's loop after `+ 0.0`: the three points get numbers, and the triangle stays where the numbers differ. The buckets of
+// all three are worked out before the first look-up, so that the processor does not begin them anew where a look-up takes an unforeseen turn.
 pub fn weld_points(
     vertices: &mut [f64],
     triangles: &mut [u32],
@@ -25,11 +29,14 @@ pub fn weld_points(
         (held w (now (vertices .entry)) (now (triangles .entry)) (now (work .entry)))
         (held r (now (vertices .exit)) (now (triangles .exit)) (now (work .exit))) ⌝ }
 {
-    let u = look_up(vertices, work, w, a);
+    let p = weld_hash::bucket_of(a, w.places);
+    let q = weld_hash::bucket_of(b, w.places);
+    let r = weld_hash::bucket_of(c, w.places);
+    let u = look_up(vertices, work, w, a, p);
     let su = u.st;
-    let v = look_up(vertices, work, su, b);
+    let v = look_up(vertices, work, su, b, q);
     let sv = v.st;
-    let t = look_up(vertices, work, sv, c);
+    let t = look_up(vertices, work, sv, c, r);
     let st = t.st;
     add_triangle(triangles, st, u.number, v.number, t.number)
 }
@@ -55,13 +62,13 @@ pub fn weld_point(
             st: w,
         };
     }
-    look_up(vertices, work, w, p)
+    look_up(vertices, work, w, p, NO_BUCKET)
 }
 
 // Gives a point its number: that of the first equal vertex of this part, or the next one, with which it is written. A point that the
-// rows show to be new goes into no chain yet.
-pub fn look_up(vertices: &mut [f64], work: &mut [u32], w: Welder, p: Vec3) -> Welded
-    requires { ⌜ Linked w (now vertices) (now work) × Clean p ⌝ }
+// rows show to be new goes into no chain yet. Where `bucket` is below the places, it is the bucket of p.
+pub fn look_up(vertices: &mut [f64], work: &mut [u32], w: Welder, p: Vec3, bucket: usize) -> Welded
+    requires { ⌜ Linked w (now vertices) (now work) × Clean p × BucketOrNone (w .places) p bucket ⌝ }
     ensures { λ r. ⌜ PointRuns p w (now (vertices .entry)) (now (work .entry)) r (now (vertices .exit)) (now (work .exit)) ⌝ }
 {
     let room = w.room;
@@ -71,7 +78,7 @@ pub fn look_up(vertices: &mut [f64], work: &mut [u32], w: Welder, p: Vec3) -> We
     let f = weld::foresee(vertices, w, p);
     let fresh = f.fresh;
     if !fresh {
-        return search::search(vertices, work, w, p);
+        return search::search(vertices, work, w, p, bucket);
     }
     let count = w.count;
     if count < w.places {

@@ -18,19 +18,19 @@ below : (x n : ℕ) → x < 2 ^ 32 → 0 < n → x * n / 4294967296 < n
 below x n p q = let s : x * n ≤ 4294967295 * n = mul-le-mul-right n (omega arith) in omega arith
 
 float-to-bits-spread : tie.Need-float-to-bits-spread
-float-to-bits-spread c = finite-not-nan _ (c .before .pre .2 .cx .finitely)
+float-to-bits-spread c = finite-not-nan _ (c .before .pre .1 .cx .finitely)
 
 spread-requires : tie.Need-spread-requires
 spread-requires c κs = search needs
 
 float-to-bits-spread-2 : tie.Need-float-to-bits-spread-2
-float-to-bits-spread-2 c = finite-not-nan _ (c .before .before .before .pre .2 .cy .finitely)
+float-to-bits-spread-2 c = finite-not-nan _ (c .before .before .before .pre .1 .cy .finitely)
 
 spread-requires-2 : tie.Need-spread-requires-2
 spread-requires-2 c κs = search needs
 
 float-to-bits-spread-3 : tie.Need-float-to-bits-spread-3
-float-to-bits-spread-3 c = finite-not-nan _ (c .before .before .before .before .before .pre .2 .cz .finitely)
+float-to-bits-spread-3 c = finite-not-nan _ (c .before .before .before .before .before .pre .1 .cz .finitely)
 
 spread-requires-3 : tie.Need-spread-requires-3
 spread-requires-3 c κs = search needs
@@ -48,7 +48,7 @@ middle-requires : tie.Need-middle-requires
 middle-requires c κs = search needs
 
 mul-result : tie.Need-mul-result
-mul-result c = scaled _ _ (c .middle .ensures .1) (c .before .before .before .before .before .before .before .before .pre .1)
+mul-result c = scaled _ _ (c .middle .ensures .1) (c .before .before .before .before .before .before .before .before .pre .0)
 
 returns : tie.Need-returns
 unfolding bucketOf foldOf
@@ -58,7 +58,7 @@ returns c =
     let y = c .before .before .before .before .spread2 in
     let z = c .before .before .spread3 in
     let sum = c .before .spread4 .ensures .0 ∙ (λ i. spreadOf (x .ensures .0 i + y .ensures .0 i + z .ensures .0 i) 1721092421 1) in
-    (ap (λ (n : ℕ). n * s .args .places / 4294967296) (c .middle .ensures .0 ∙ ap middleOf sum), below _ _ (c .middle .ensures .1) (s .pre .0))
+    (ap (λ (n : ℕ). n * s .args .places / 4294967296) (c .middle .ensures .0 ∙ ap middleOf sum), below _ _ (c .middle .ensures .1))
 
 pub bucket-of-spec : {M : Type 1} → statement M
 bucket-of-spec =

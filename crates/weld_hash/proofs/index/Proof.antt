@@ -27,12 +27,13 @@ bucket-of-requires : tie.Need-bucket-of-requires Inv-loop μ-loop
 bucket-of-requires c κs =
     let s = c .before .before .before .before .before .before in
     let t = c .before .before .loop-test .taken in
-    (omega (arith, s .pre .0 .fits, t), s .pre .1, subst Clean (sym (c .vertex .ensures)) (s .pre .0 .clean _ t))
+    (s .pre .1, subst Clean (sym (c .vertex .ensures)) (s .pre .0 .clean _ t))
 
 link-requires : tie.Need-link-requires Inv-loop μ-loop
 link-requires c κs =
     let s = c .before .before .before .before .before .before .before in
-    (c .before .before .before .before .loop .inv .3 .chained .links, omega (arith, s .pre .0 .fits, c .before .before .before .loop-test .taken), c .bucket-of .ensures .1, s .pre .1)
+    let l = c .before .before .before .loop-test .taken in
+    (c .before .before .before .before .loop .inv .3 .chained .links, omega (arith, s .pre .0 .fits, l), c .bucket-of .ensures .1 (omega (arith, s .pre .0 .fits, l)), s .pre .1)
 
 add-m : tie.Need-add-m Inv-loop μ-loop
 add-m c = search needs
@@ -45,13 +46,14 @@ loop-again c =
     let s = c .before .before .before .before .before .before .before .before .before .before in
     let i = c .before .before .before .before .before .before .before .loop .inv in
     let t = c .before .before .before .before .before .before .loop-test .taken in
-    let b = c .before .before .before .bucket-of in (
+    let b = c .before .before .before .bucket-of in
+    let l = b .ensures .1 (omega (arith, s .pre .0 .fits, t)) in (
       omega (arith, i .0),
       omega (arith, t),
       c .before .before .link .kept .0 ∙ i .2,
-      indexed-next (b .result) (i .3) (omega (arith, s .pre .0 .fits, t)) (b .ensures .1) (c .before .before .link .ensures)
+      indexed-next (b .result) (i .3) (omega (arith, s .pre .0 .fits, t)) l (c .before .before .link .ensures)
           (chained-next (now (s .args .vertices)) _ (s .args .places) (s .args .base) (c .before .before .before .before .before .before .before .loop .m) (i .3 .chained) (omega (arith, s .pre .0 .fits, t)) (b .result)
-          (b .ensures .0 ∙ ap (bucketOf (s .args .places)) (c .before .before .before .before .vertex .ensures)) (b .ensures .1)),
+          (b .ensures .0 ∙ ap (bucketOf (s .args .places)) (c .before .before .before .before .vertex .ensures)) l),
     )
 
 same-length : tie.Need-same-length Inv-loop μ-loop

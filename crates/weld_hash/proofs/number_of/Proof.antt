@@ -5,9 +5,6 @@ use Rattle.weld_hash.proofs.Chains.{told, placing-found, placing-new, p
 use Rattle.weld_hash.proofs.number_of.Statement.{statement}
 use Rattle.weld_hash.proofs.number_of.Tie as tie
 
-bucket-of-requires : tie.Need-bucket-of-requires
-bucket-of-requires c κs = search needs
-
 find-requires : tie.Need-find-requires
 find-requires c κs = search needs
 
@@ -34,7 +31,7 @@ same-length-2 c = search needs
 
 returns : tie.Need-returns
 returns c =
-    let s = c .before .before .before .before .before .before .before .before .before in
+    let s = c .before .before .before .before .before .before .before .before in
     placing-found (s .args .places) (s .args .base) (s .args .count) (s .args .p) (now (s .args .vertices)) (now (s .args .work)) _ (told (now (s .args .vertices)) (s .args .base) (s .args .count) (s .args .p) (c .before .found .given .1) (c .before .before .before .find .ensures))
 
 same-length-3 : tie.Need-same-length-3
@@ -45,10 +42,9 @@ same-length-4 c = search needs
 
 returns-2 : tie.Need-returns-2
 returns-2 c =
-    let s = c .before .before .before .before .before .before .before .before .before .before .before .before .before .before .before .before .before in
-    let b = c .before .before .before .before .before .before .before .before .before .before .before .before .before .before .bucket-of in
+    let s = c .before .before .before .before .before .before .before .before .before .before .before .before .before .before .before .before in
     rw (c .before .before .before .before .before .before .put-vertex .ensures, c .before .before .link .ensures)
-    (placing-new (s .args .places) (s .args .base) (s .args .count) (s .args .p) (now (s .args .vertices)) (now (s .args .work)) (b .result) (b .ensures .0) (b .ensures .1) (told (now (s .args .vertices)) (s .args .base) (s .args .count) (s .args .p) (c .before .before .before .before .before .before .before .before .before .enum-told .given .1) (c .before .before .before .before .before .before .before .before .before .before .before .find .ensures)) (c .before .before .before .before .before .before .before .before .if1 .taken))
+    (placing-new (s .args .places) (s .args .base) (s .args .count) (s .args .p) (now (s .args .vertices)) (now (s .args .work)) (s .args .bucket) (s .pre .1 .0) (s .pre .1 .1) (told (now (s .args .vertices)) (s .args .base) (s .args .count) (s .args .p) (c .before .before .before .before .before .before .before .before .before .enum-told .given .1) (c .before .before .before .before .before .before .before .before .before .before .before .find .ensures)) (c .before .before .before .before .before .before .before .before .if1 .taken))
 
 same-length-5 : tie.Need-same-length-5
 same-length-5 c = search needs
@@ -58,14 +54,13 @@ same-length-6 c = search needs
 
 returns-3 : tie.Need-returns-3
 returns-3 c =
-    let s = c .before .before .before .before .before .before .before .before .before in
+    let s = c .before .before .before .before .before .before .before .before in
     placing-full (s .args .places) (s .args .base) (s .args .count) (s .args .p) (now (s .args .vertices)) (now (s .args .work)) (told (now (s .args .vertices)) (s .args .base) (s .args .count) (s .args .p) (c .before .enum-told .given .1) (c .before .before .before .find .ensures)) (c .if1 .left)
 
 pub number-of-spec : {M : Type 1} → statement M
 number-of-spec =
     tie.close
     (tie.spec
-    bucket-of-requires
     find-requires
     enum-known-found
     enum-told

@@ -15,7 +15,7 @@ find-requires : tie.Need-find-requires
 find-requires c κs =
     let s = c .before .before .before .before .before .before .before .before .before in
     let t = c .before .before .before .before .settle in
-    rw (t .ensures .0) (t .ensures .1, s .pre .1, s .pre .2, s .pre .3, refl)
+    rw (t .ensures .0) ((t .ensures .1, s .pre .1, s .pre .2, s .pre .3, s .pre .4), refl)
 
 same-length : tie.Need-same-length
 same-length c = search needs

@@ -19,7 +19,7 @@ foresee-requires c κs = search needs
 search-requires : tie.Need-search-requires
 search-requires c κs =
     let s = c .before .before .before .before .before .before .before .before in
-    (s .pre .0, s .pre .1, not-false _ (c .before .before .before .before .before .if1 .left), c .before .before .before .foresee .ensures .some (not-true _ (c .before .before .if2 .taken)))
+    (s .pre .0, s .pre .1, not-false _ (c .before .before .before .before .before .if1 .left), c .before .before .before .foresee .ensures .some (not-true _ (c .before .before .if2 .taken)), s .pre .2)
 
 same-length : tie.Need-same-length
 same-length c = search needs

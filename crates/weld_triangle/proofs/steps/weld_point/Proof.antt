@@ -5,7 +5,7 @@ use mathlib.Core.Path.{sym, _∙_}
 use denote.Ref.{now}
 use Rattle.weld_vertex.proofs.At.{at-yes}
 use Rattle.weld_hash.proofs.Chains.{first-at}
-use Rattle.weld_triangle.proofs.Point.{point-shut, point-at}
+use Rattle.weld_triangle.proofs.Point.{few-places, no-bucket, point-shut, point-at}
 use Rattle.weld_triangle.proofs.steps.weld_point.Statement.{statement}
 use Rattle.weld_triangle.proofs.steps.weld_point.Tie as tie
 
@@ -29,7 +29,7 @@ returns-2 c =
     (s .pre .1) (s .args .guess) (e .0) (e .1) (e .2))
 
 look-up-requires : tie.Need-look-up-requires
-look-up-requires c κs = search needs
+look-up-requires c κs = let s = c .before .before .before .before .before .before .before .before in (s .pre .0, s .pre .1, no-bucket _ _ (few-places (s .pre .0)))
 
 same-length-2 : tie.Need-same-length-2
 same-length-2 c = search needs
