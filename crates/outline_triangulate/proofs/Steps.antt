@@ -19,7 +19,7 @@ use Rattle.outline_ears.specs.declared.Found.the-variants.{At, Nothing}
 use Rattle.outline_ears.proofs.Laws.{idx-length, idx-at, find-below}
 use Rattle.outline_triangulate.specs.Triangulate.{Clipping, without, fan, clipped, dropped, fanned, byFound, pass, passes, finished, start, triangulated}
 use Rattle.outline_triangulate.specs.Triangulate.{triangulatePolygon}
-use Rattle.outline_triangulate.specs.Slices.{idxOf, clippingOf, Room, Passing, CutAs, WroteTriangles}
+use Rattle.outline_triangulate.specs.Slices.{idxOf, clippingOf, none, Room, Passing, CutAs, WroteTriangles}
 use Rattle.outline_triangulate.specs.declared.Remaining.{Remaining}
 use Rattle.outline_triangulate.specs.declared.Cut.{Cut}
 use Rattle.outline_triangulate.specs.declared.Passed.{Passed}
@@ -141,16 +141,16 @@ pub record Goes (v : List Float) (e : Float) (w : Remaining) (c : Cut) (b : List
   pub falls : w' .m < w .m
 
 module _ (v : List Float) (e : Float) (w : Remaining) (c : Cut) (b : List ℕ) (c' : Cut) (a : List ℕ) (s : Inside v (w .idx) (w .m)) where
-  pub goes-without : (k : ℕ) (next : Remaining) → Passing v e (w .idx) (w .m) c b (Without k c') a
-      → (next .m + 1 ≡ w .m) × (length (next .idx) ≡ 512) × (idxOf next ≡ without k (idxOf w)) → Goes v e w c b next c' a
-  goes-without k next p q =
+  pub goes-without : (k : ℕ) (l : List ℕ) → Passing v e (w .idx) (w .m) c b (Without k c') a
+      → (length l ≡ 512) × (take (w .m - 1) l ≡ without k (idxOf w)) → Goes v e w c b (record { idx = l; m = w .m - 1 }) c' a
+  goes-without k l p q =
       record {
-        inside = without-inside v w next k s (p .index) (q .0) (q .1) (q .2);
-        room = record { room = omega (arith, p .room .room); few = omega (arith, p .room .few); short = p .room .short };
-        state = clipping-eq (q .2) refl refl ∙ p .state;
+        inside = without-inside v w l k s (p .index) (q .0) (q .1);
+        room = p .room;
+        state = clipping-eq (q .1) refl refl ∙ p .state;
         rest = p .rest;
         grows = p .grows;
-        falls = omega arith;
+        falls = omega (arith, p .index);
       }
 
   pub goes-fanned : 3 < w .m → Passing v e (w .idx) (w .m) c b (Fanned c') a → Goes v e w c b (record { idx = w .idx; m = 0 }) c' a
@@ -286,9 +286,11 @@ module _ (v : List Float) (e : Float) (idx : List ℕ) (n : ℕ) (c : Cut) (b : 
 
 -- ---- the whole
 
-pub start-is : (c : Remaining) (n : ℕ) (out : List ℕ) → idxOf c ≡ counting 0 n → clippingOf (idxOf c) (record { triangles = 0; removed = 0 }) out ≡ start n
+-- the corners are counted, and the passes start
+pub passes-start : (v : List Float) (e : Float) (c : Remaining) (n : ℕ) (out : List ℕ) → c .m ≡ n → idxOf c ≡ counting 0 n
+    → passes (c .m * c .m) v e (clippingOf (idxOf c) none out) ≡ passes (n * n) v e (start n)
 unfolding start
-start-is c n out e = clipping-eq e refl refl
+passes-start v e c n out hm hi = ap (λ (m : ℕ). passes (m * m) v e (clippingOf (idxOf c) none out)) hm ∙ ap (passes (n * n) v e) (clipping-eq hi refl refl)
 
 module _ (v : List Float) where
   pub triangulate-few : (b : List ℕ) → length v / 2 < 3 → CutAs (triangulatePolygon v) (record { triangles = 0; removed = 0 }) b b

@@ -158,22 +158,22 @@ getD-without-low k l i h hl =
     let n : length (take k l) ≡ k = length-take-le k l hl in
     List·getD-append (take k l) (drop (suc k) l) 0 i (omega arith) ∙ getD-take k l i 0 h
 
-module _ (v : List Float) (c r : Remaining) (k : ℕ) (s : Inside v (c .idx) (c .m)) (h : k < c .m) (n : r .m + 1 ≡ c .m) (long : length (r .idx) ≡ 512) (e : idxOf r ≡ without k (idxOf c)) where
-  same-at : (i : ℕ) → i < r .m → getD (r .idx) i 0 ≡ getD (without k (idxOf c)) i 0
-  same-at i hi = sym (getD-take (r .m) (r .idx) i 0 hi) ∙ ap (λ (l : List ℕ). getD l i 0) e
+module _ (v : List Float) (c : Remaining) (l : List ℕ) (k : ℕ) (s : Inside v (c .idx) (c .m)) (h : k < c .m) (long : length l ≡ 512) (e : take (c .m - 1) l ≡ without k (idxOf c)) where
+  same-at : (i : ℕ) → i < c .m - 1 → getD l i 0 ≡ getD (without k (idxOf c)) i 0
+  same-at i hi = sym (getD-take (c .m - 1) l i 0 hi) ∙ ap (λ (r : List ℕ). getD r i 0) e
 
-  inside-by : (i : ℕ) → i < r .m → Dec (i < k) → 2 * getD (r .idx) i 0 + 1 < length v
+  inside-by : (i : ℕ) → i < c .m - 1 → Dec (i < k) → 2 * getD l i 0 + 1 < length v
   inside-by i hi (yes p) =
       let hl : length (idxOf c) ≡ c .m = idx-length v (c .idx) (c .m) s in
-      let g : getD (r .idx) i 0 ≡ getD (c .idx) i 0 = same-at i hi ∙ getD-without-low k (idxOf c) i p (omega arith) ∙ idx-at v (c .idx) (c .m) s i (omega arith) in
+      let g : getD l i 0 ≡ getD (c .idx) i 0 = same-at i hi ∙ getD-without-low k (idxOf c) i p (omega arith) ∙ idx-at v (c .idx) (c .m) s i (omega arith) in
       omega (arith, s .there i (omega arith))
   inside-by i hi (no p) =
       let hl : length (idxOf c) ≡ c .m = idx-length v (c .idx) (c .m) s in
       let q : k ≤ i = omega (arith, p) in
-      let g : getD (r .idx) i 0 ≡ getD (c .idx) (i + 1) 0 = same-at i hi ∙ getD-without k (idxOf c) i q (omega arith) ∙ idx-at v (c .idx) (c .m) s (i + 1) (omega arith) in
+      let g : getD l i 0 ≡ getD (c .idx) (i + 1) 0 = same-at i hi ∙ getD-without k (idxOf c) i q (omega arith) ∙ idx-at v (c .idx) (c .m) s (i + 1) (omega arith) in
       omega (arith, s .there (i + 1) (omega arith))
 
-  pub without-inside : Inside v (r .idx) (r .m)
+  pub without-inside : Inside v l (c .m - 1)
   without-inside = record { long = long; small = omega (arith, s .small); there = λ i hi. inside-by i hi (decLt i k) }
 
 -- ---- the fan

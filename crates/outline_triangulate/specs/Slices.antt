@@ -4,9 +4,11 @@ use mathlib.Core.Path.{_≡_}
 use mathlib.Core.List.{List, [], _++_}
 use lib.ListN.{length, take, drop}
 use lib.Ieee.{Float}
-use Rattle.outline_triangulate.specs.Triangulate.{Clipping, without, pass}
+use Rattle.outline_ears.specs.Inside.{Inside}
+use Rattle.outline_triangulate.specs.Triangulate.{Clipping, without, pass, passes}
 use Rattle.outline_triangulate.specs.declared.Remaining.{Remaining}
 use Rattle.outline_triangulate.specs.declared.Cut.{Cut}
+use Rattle.outline_triangulate.specs.declared.Clipped.{Clipped}
 use Rattle.outline_triangulate.specs.declared.Passed.{Passed}
 use Rattle.outline_triangulate.specs.declared.Passed.the-variants.{Without, Fanned}
 
@@ -22,6 +24,10 @@ pub record WroteTriangles (t t' : ℕ) (new b a : List ℕ) : Type 0 where
 -- the definition's state where idx has the corners that remain, c the counts, and the triangles stand at the start of out
 abbrev pub clippingOf : List ℕ → Cut → List ℕ → Clipping
 clippingOf idx c out = record { idx = idx; triangles = take (3 * c .triangles) out; removed = c .removed }
+
+-- the counts at the start
+abbrev pub none : Cut
+none = record { triangles = 0; removed = 0 }
 
 -- where m corners remain and c has the counts, out has room for the m - 2 triangles that they give at most (none where m is 2 or less), and the counts are
 -- small
@@ -57,6 +63,14 @@ pub record Passing (v : List Float) (eps : Float) (idx : List ℕ) (m : ℕ) (c 
   pub grows : c .triangles ≤ counts r .triangles
   pub room : Room (remaining r m) (counts r) a
   pub index : indexed r m
+
+-- r is what the passes leave of w, with the Rust's guard, the square of the number of corners
+pub record Passes (v : List Float) (eps : Float) (w : Remaining) (b : List ℕ) (r : Clipped) (a : List ℕ) : Type 0 where
+  pub state : clippingOf (idxOf (r .left)) (r .cut) a ≡ passes (w .m * w .m) v eps (clippingOf (idxOf w) none b)
+  pub rest : drop (3 * r .cut .triangles) a ≡ drop (3 * r .cut .triangles) b
+  pub few : r .left .m ≤ 3
+  pub inside : Inside v (r .left .idx) (r .left .m)
+  pub room : Room (r .left .m) (r .cut) a
 
 -- the triangles of s stand at the start of a, the rest is as before, and r has the counts
 pub record CutAs (s : Clipping) (r : Cut) (b a : List ℕ) : Type 0 where

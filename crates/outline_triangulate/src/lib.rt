@@ -21,3 +21,9 @@ pub(crate) enum Passed {
     Without(usize, Cut),
     Fanned(Cut),
 }
+
+// What the passes leave: the corners that remain, three at most, and the counts.
+pub(crate) struct Clipped {
+    pub left: Remaining,
+    pub cut: Cut,
+}

@@ -4,7 +4,7 @@ ghost use mathlib.Core.List.{[], _∷_};
 ghost use Prim.Native.Nat.{_+_, _-_, _*_, _<_, _≤_, _^_};
 ghost use lib.ListN.{length, take};
 ghost use Rattle.outline_ears.specs.Ears.{counting as counting·};
-ghost use Rattle.outline_triangulate.specs.Triangulate.{without as without·, fan as fan·};
+ghost use Rattle.outline_triangulate.specs.Triangulate.{without, fan as fan·};
 ghost use Rattle.outline_triangulate.specs.Slices.{idxOf, WroteTriangles};
 use crate::Remaining;
 
@@ -25,19 +25,17 @@ pub fn counting(n: usize) -> Remaining
     out
 }
 
-// The Rust's idx.remove(k).
-pub fn without(mut left: Remaining, k: usize) -> Remaining
-    requires { ⌜ (k < left .m) × (left .m ≤ 512) ⌝ }
-    ensures { λ r. ⌜ (r .m + 1 ≡ left .m) × (length (r .idx) ≡ 512) × (idxOf r ≡ without· k (idxOf left)) ⌝ }
+// The Rust's idx.remove(k), in place: idx is the first m numbers of the array, and then the first m - 1.
+pub fn remove(idx: &mut [u32; 512], m: usize, k: usize)
+    requires { ⌜ (k < m) × (m ≤ 512) × (length (now idx) ≡ 512) ⌝ }
+    ensures { λ _. ⌜ (length (now (idx .exit)) ≡ 512) × (take (m - 1) (now (idx .exit)) ≡ without k (take m (now (idx .entry)))) ⌝ }
 {
-    let last = left.m - 1;
+    let last = m - 1;
     let mut i = k;
     while i < last {
-        left.idx[i] = left.idx[i + 1];
+        idx[i] = idx[i + 1];
         i += 1;
     }
-    left.m = last;
-    left
 }
 
 // Triangle t of out becomes a b c.

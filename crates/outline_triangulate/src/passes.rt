@@ -4,9 +4,11 @@ ghost use Prim.Native.Nat.{_*_, _<_, _≤_};
 ghost use lib.ListN.{length, take};
 ghost use Rattle.outline_ears.specs.Inside.{Inside};
 ghost use Rattle.outline_triangulate.specs.Triangulate.{finished, triangulatePolygon};
-ghost use Rattle.outline_triangulate.specs.Slices.{Room, Passing, CutAs, clippingOf};
+ghost use Rattle.outline_triangulate.specs.Slices.{Room, none, Passing, Passes, CutAs, clippingOf};
+use crate::Clipped;
 use crate::Cut;
 use crate::Passed;
+use crate::Remaining;
 use crate::lists;
 use outline_ears::Found;
 
@@ -77,27 +79,21 @@ fn finish(v: &[f64], eps: f64, idx: &[u32; 512], m: usize, cut: Cut, out: &mut [
     cut
 }
 
-// The triangles of an outline, in a slice with a place for each that 512 corners can have.
-fn triangulate(v: &[f64], out: &mut [u32]) -> Cut
-    requires { ⌜ (length (now v) ≤ 1024) × (length (now out) ≡ 1536) ⌝ }
-    ensures { λ r. ⌜ CutAs (triangulatePolygon (now (v .entry))) r (now (out .entry)) (now (out .exit))
-        × (3 * r .triangles ≤ 1536) × (length (now (out .exit)) ≡ 1536) ⌝ }
+// The passes over the corners that remain, until three remain or none. A corner is taken out of the struct's own array.
+fn clip(v: &[f64], eps: f64, mut left: Remaining, out: &mut [u32]) -> Clipped
+    requires { ⌜ (1 ≤ left .m) × Inside (now v) (left .idx) (left .m) × Room (left .m) none (now out) ⌝ }
+    ensures { λ r. ⌜ Passes (now (v .entry)) eps left (now (out .entry)) r (now (out .exit)) ⌝ }
 {
-    let n = v.len() / 2;
     let mut cut = Cut {
         triangles: 0,
         removed: 0,
     };
-    if n < 3 {
-        return cut;
-    }
-    let eps = outline_ears::tolerance(v);
-    let mut left = lists::counting(n);
     while 3 < left.m {
         let m = left.m;
         match pass(v, eps, &left.idx, m, cut, out) {
             Passed::Without(k, counts) => {
-                left = lists::without(left, k);
+                lists::remove(&mut left.idx, m, k);
+                left.m = m - 1;
                 cut = counts;
             }
             Passed::Fanned(counts) => {
@@ -106,8 +102,30 @@ fn triangulate(v: &[f64], out: &mut [u32]) -> Cut
             }
         }
     }
+    Clipped {
+        left: left,
+        cut: cut,
+    }
+}
+
+// The triangles of an outline, in a slice with a place for each that 512 corners can have.
+fn triangulate(v: &[f64], out: &mut [u32]) -> Cut
+    requires { ⌜ (length (now v) ≤ 1024) × (length (now out) ≡ 1536) ⌝ }
+    ensures { λ r. ⌜ CutAs (triangulatePolygon (now (v .entry))) r (now (out .entry)) (now (out .exit))
+        × (3 * r .triangles ≤ 1536) × (length (now (out .exit)) ≡ 1536) ⌝ }
+{
+    let n = v.len() / 2;
+    if n < 3 {
+        return Cut {
+            triangles: 0,
+            removed: 0,
+        };
+    }
+    let eps = outline_ears::tolerance(v);
+    let clipped = clip(v, eps, lists::counting(n), out);
+    let left = clipped.left;
     let m = left.m;
-    finish(v, eps, &left.idx, m, cut, out)
+    finish(v, eps, &left.idx, m, clipped.cut, out)
 }
 
 // The Rust's triangulate_polygon, an inner function: clip_outline and the solids refuse more than 512 corners before they call it. The triangles are at the
