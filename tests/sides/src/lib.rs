@@ -1,4 +1,4 @@
-//! What tests/bench and tests/worst share: our side of a comparison (crates/c_solids), the Rust's (csx_plain), and the clock.
+//! What tests/bench, tests/worst and tests/stack share: our side of a comparison (crates/c_solids), the Rust's (csx_plain), and the clock.
 pub mod clock;
 pub mod ours;
 pub mod rust;

@@ -68,7 +68,14 @@ unsafe extern "C" {
         k: *mut usize,
     ) -> u32;
     fn sizturga_bench_area(n: usize, k: usize, v: *const f64, v_len: usize, t: *const u32, t_len: usize) -> u64;
-    fn sizturga_bench_signed_volume(n: usize, k: usize, v: *const f64, v_len: usize, t: *const u32, t_len: usize) -> u64;
+    fn sizturga_bench_signed_volume(
+        n: usize,
+        k: usize,
+        v: *const f64,
+        v_len: usize,
+        t: *const u32,
+        t_len: usize,
+    ) -> u64;
     fn sizturga_bench_append(
         n: *mut usize,
         k: *mut usize,
@@ -83,7 +90,8 @@ unsafe extern "C" {
         other_t: *const u32,
         other_t_len: usize,
     ) -> u32;
-    fn sizturga_bench_flip(n: *mut usize, k: *mut usize, v: *const f64, v_len: usize, t: *mut u32, t_len: usize) -> u32;
+    fn sizturga_bench_flip(n: *mut usize, k: *mut usize, v: *const f64, v_len: usize, t: *mut u32, t_len: usize)
+    -> u32;
     fn sizturga_bench_transform(
         n: *mut usize,
         k: *mut usize,
@@ -221,7 +229,9 @@ pub fn append(m: &mut Lent, o: &Lent) -> u32 {
 
 pub fn flip(m: &mut Lent) -> u32 {
     let (v, t) = (&m.vertices, &mut m.triangles);
-    unsafe { sizturga_bench_flip(&mut m.vertex_count, &mut m.triangle_count, v.as_ptr(), v.len(), t.as_mut_ptr(), t.len()) }
+    unsafe {
+        sizturga_bench_flip(&mut m.vertex_count, &mut m.triangle_count, v.as_ptr(), v.len(), t.as_mut_ptr(), t.len())
+    }
 }
 
 /// A rotation about an axis through the origin, by radians, then a translation.

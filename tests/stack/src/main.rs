@@ -21,7 +21,11 @@ fn report() {
         println!("{name}\t{most}");
     }
     let mut mesh = drawn(&Solid::Sphere([0.0; 3], 1.0), 64, 64);
-    let mut room = Lent { vertices: vec![0.0; 6 * mesh.vertex_count], triangles: vec![0; 6 * mesh.triangle_count], ..mesh.clone() };
+    let mut room = Lent {
+        vertices: vec![0.0; 6 * mesh.vertex_count],
+        triangles: vec![0; 6 * mesh.triangle_count],
+        ..mesh.clone()
+    };
     room.vertices[..mesh.vertices.len()].copy_from_slice(&mesh.vertices);
     room.triangles[..mesh.triangles.len()].copy_from_slice(&mesh.triangles);
     println!("append\t{}", taken(|| _ = ours::append(&mut room, &mesh)));
@@ -39,7 +43,8 @@ type Drawing = (Solid, usize, usize);
 
 /// Each solid at resolutions that choose other local arrays.
 fn drawings() -> Vec<(&'static str, Vec<Drawing>)> {
-    let at = |make: &dyn Fn() -> Solid| [(3, 2), (64, 64), (65, 65), (1024, 1024)].map(|(s, r)| (make(), s, r)).to_vec();
+    let at =
+        |make: &dyn Fn() -> Solid| [(3, 2), (64, 64), (65, 65), (1024, 1024)].map(|(s, r)| (make(), s, r)).to_vec();
     let outline = |n: usize| (0..n).flat_map(|i| corner(i, n)).collect::<Vec<f64>>();
     let outlines = |make: &dyn Fn(Vec<f64>) -> Solid| [3, 64, 65, 512].map(|n| (make(outline(n)), 64, 2)).to_vec();
     vec![
@@ -93,7 +98,8 @@ fn taken(call: impl FnOnce()) -> usize {
         unsafe { std::ptr::with_exposed_provenance_mut::<u8>(at).write_volatile(FILL) };
     }
     call();
-    let first = (lowest..top).find(|&at| unsafe { std::ptr::with_exposed_provenance::<u8>(at).read_volatile() } != FILL);
+    let first =
+        (lowest..top).find(|&at| unsafe { std::ptr::with_exposed_provenance::<u8>(at).read_volatile() } != FILL);
     assert_ne!(first, Some(lowest), "more stack than is watched");
     black_box(&mark);
     first.map_or(0, |at| top + SKIPPED - at)
