@@ -26,6 +26,7 @@ coord lo hi n periodic i =
     cond (periodic && eqb i n) lo
     (cond (eqb i n) hi (add binary64 lo (div binary64 (mul binary64 (sub binary64 hi lo) (ofInt binary64 (pos i))) (ofInt binary64 (pos n)))))
 
+-- `coord(axis, i)`
 abbrev pub line : Axis → ℕ → Float
 line a i = coord (a .lo) (a .hi) (a .parts) (a .periodic) i
 
@@ -37,7 +38,7 @@ face u v point side val = grid (u .parts) (v .parts) (not side) (λ i j. point v
 unfoldable pub faces : Axis → Axis → Axis → (Float → Float → Float → Vec3) → Soup
 faces k u v point = cond (k .periodic) [] (face u v point false (k .lo) ++ cond (eq (k .hi) (k .lo)) [] (face u v point true (k .hi)))
 
--- `Soup::param_box`: each axis k with u = (k + 1) % 3 and v = (k + 2) % 3
+-- `Soup::param_box`: each axis k with u = (k + 1) % 3 and v = (k + 2) % 3; of the three numbers, p is p[k], a is p[u] and b is p[v]
 unfoldable pub paramBox : Axis → Axis → Axis → (Vec3 → Vec3) → Soup
 paramBox x y z map =
     faces x y z (λ p a b. map (new p a b))

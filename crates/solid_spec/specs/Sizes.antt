@@ -6,10 +6,10 @@ use Prim.Native.Nat.{ℕ}
 use lib.IntN.{pos}
 use lib.ListN.{length}
 use lib.Ieee.{Float, binary64, add, sub, mul, div, neg, ofInt, ofBits, eq, ne, lt, le, isNan}
-use Rattle.ieee.specs.Number.{minimum, maximum, absolute, ceiling, plusZero, tau}
+use Rattle.ieee.specs.Number.{minimum, maximum, absolute, ceiling, tau}
 use Rattle.root.specs.Sqrt.{sqrt}
 use Rattle.math.specs.declared.Vec3.{Vec3}
-use Rattle.math.specs.Vec.{new, vSub, vMin, vMax, vDiv, dot, normSq, norm}
+use Rattle.math.specs.Vec.{new, vSub, vMin, vMax, dot, normSq, norm}
 use Rattle.outline.specs.Corners.{point, same}
 use Rattle.outline.specs.Axes.{planeAxes}
 use Rattle.outline.specs.Clean.{endsIn, pushed, gathered, stay, cleanPolygon}

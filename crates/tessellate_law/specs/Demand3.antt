@@ -1,6 +1,5 @@
 -- Demand 3 (docs/SCOPE.md, "Words of demand 3"), whole and as one theorem, on the definitions that the contracts of `tessellate`, `append`, `flip` and
--- `transform` cite.
--- Assumes nothing.
+-- `transform` cite. Assumes nothing.
 -- The words are in specs/Words.antt: `Solid` has the conditions, a line for each shape.
 use mathlib.Core.Path.{sym, subst}
 use mathlib.Core.Bool.{Bool, true, false, cond}
