@@ -1,7 +1,7 @@
 -- Laws of the searches, in the form that the code's loops go by. Assumes nothing.
 use Prim.Native.Nat.{ℕ, zero, suc, _+_, _-_, _%_, _<_, _≤_}
 use mathlib.Core.Path.{_≡_, refl, sym, ap, _∙_}
-use mathlib.Core.Bool.{Bool, true, false, cond, not, _&&_, _||_, and-true, and-false}
+use mathlib.Core.Bool.{Bool, true, false, cond, not, _&&_, _||_, and-true, and-false, and-comm}
 use mathlib.Core.List.{List}
 use native.Mathlib.Numerals.{add-one}
 use native.Mathlib.Nat.{mod-lt, mod-self, mod-eq-of-lt, add-mod-left, sub-zero}
@@ -100,18 +100,17 @@ none-of true true = refl
 none-of true false = refl
 none-of false b = refl
 
-module _ (e : Float) (a b c p : Point) where
-  pub inTriangle-third : {x y z : Float} → z ≡ cross c a p → y ≡ cross b c p → x ≡ cross a b p → le (neg e) z ≡ true → le (neg e) y ≡ true → le (neg e) x ≡ inTriangle e a b c p
+-- the code tests the sides from c to a and from b to c at once
+module _ (e : Float) (a b c p : Point) {y z : Float} (ez : z ≡ cross c a p) (ey : y ≡ cross b c p) where
+  inTriangle-by : {x : Float} {u : Bool} → (le (neg e) z && le (neg e) y) ≡ u → x ≡ cross a b p → (le (neg e) x && u) ≡ inTriangle e a b c p
   unfolding inTriangle
-  inTriangle-third ez ey ex hz hy = rw (← ex, ← ey, ← ez, hz, hy) (sym (and-true _))
+  inTriangle-by {x} h ex = rw (← ex, ← ey, ← ez) (ap {B = Bool} (λ (t : Bool). le (neg e) x && t) (sym h ∙ and-comm (le (neg e) z) (le (neg e) y)))
 
-  pub inTriangle-second : {y z : Float} → z ≡ cross c a p → y ≡ cross b c p → le (neg e) z ≡ true → le (neg e) y ≡ false → false ≡ inTriangle e a b c p
-  unfolding inTriangle
-  inTriangle-second ez ey hz hy = rw (← ey, ← ez, hz, hy) (sym (and-false (le (neg e) (cross a b p))))
+  pub inTriangle-third : {x : Float} → (le (neg e) z && le (neg e) y) ≡ true → x ≡ cross a b p → le (neg e) x ≡ inTriangle e a b c p
+  inTriangle-third {x} h ex = sym (and-true (le (neg e) x)) ∙ inTriangle-by h ex
 
-  pub inTriangle-first : {z : Float} → z ≡ cross c a p → le (neg e) z ≡ false → false ≡ inTriangle e a b c p
-  unfolding inTriangle
-  inTriangle-first ez hz = rw (← ez, hz) (none-of (le (neg e) (cross a b p)) (le (neg e) (cross b c p)))
+  pub inTriangle-beyond : (le (neg e) z && le (neg e) y) ≡ false → false ≡ inTriangle e a b c p
+  inTriangle-beyond h = sym (and-false (le (neg e) (cross a b p))) ∙ inTriangle-by h refl
 
 -- ---- a test of a corner, which the code has read as p
 

@@ -1,5 +1,5 @@
 -- `outline_ears::in_triangle` meets its contract. Assumes nothing.
-use Rattle.outline_ears.proofs.Laws.{inTriangle-first, inTriangle-second, inTriangle-third}
+use Rattle.outline_ears.proofs.Laws.{inTriangle-third, inTriangle-beyond}
 use borrow.Author.Needs.{needs}
 use Rattle.outline_ears.proofs.in_triangle.Statement.{statement}
 use Rattle.outline_ears.proofs.in_triangle.Tie as tie
@@ -14,17 +14,11 @@ cross-requires-3 : tie.Need-cross-requires-3
 cross-requires-3 c κs = search needs
 
 returns : tie.Need-returns
-returns c =
-    inTriangle-third _ _ _ _ _ (c .before .before .before .before .cross .ensures) (c .before .before .cross2 .ensures) (c .cross3 .ensures) (c .before .before .before .if1 .taken)
-    (c .before .if2 .taken)
+returns c = inTriangle-third _ _ _ _ _ (c .before .before .before .cross .ensures) (c .before .before .cross2 .ensures) (c .before .if1 .taken) (c .cross3 .ensures)
 
 returns-2 : tie.Need-returns-2
-returns-2 c = inTriangle-second _ _ _ _ _ (c .before .before .before .cross .ensures) (c .before .cross2 .ensures) (c .before .before .if1 .taken) (c .if2 .left)
-
-returns-3 : tie.Need-returns-3
-returns-3 c = inTriangle-first _ _ _ _ _ (c .before .cross .ensures) (c .if1 .left)
+returns-2 c = inTriangle-beyond _ _ _ _ _ (c .before .before .cross .ensures) (c .before .cross2 .ensures) (c .if1 .left)
 
 pub in-triangle-spec : {M : Type 1} → statement M
 in-triangle-spec =
-    tie.close
-    (tie.spec cross-requires cross-requires-2 cross-requires-3 returns returns-2 returns-3)
+    tie.close (tie.spec cross-requires cross-requires-2 cross-requires-3 returns returns-2)
