@@ -21,3 +21,8 @@ pub record Grew (o : List Float) (m r : ℕ) (a : List Float) : Type 0 where
 pub record Copied (o : List Float) (r : ℕ) (b a : List Float) : Type 0 where
   pub count : 2 * r ≡ length o
   pub slice : a ≡ o ++ drop (length o) b
+
+-- the first r corners are o
+pub record Holds (o : List Float) (r : ℕ) (a : List Float) : Type 0 where
+  pub count : 2 * r ≡ length o
+  pub front : take (2 * r) a ≡ o

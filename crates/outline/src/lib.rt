@@ -3,9 +3,9 @@ ghost use mathlib.Core.Path.{_≡_};
 ghost use mathlib.Core.List.{[]};
 ghost use Prim.Native.Nat.{_+_, _*_, _/_, _<_, _≤_};
 ghost use lib.ListN.{length, take};
-ghost use Rattle.outline.specs.Corners.{point, same as same·, padded};
+ghost use Rattle.outline.specs.Corners.{point, same as same·};
 ghost use Rattle.outline.specs.Clean.{endsIn, pushed, gathered, stay as stay·, cleanPolygon};
-ghost use Rattle.outline.specs.Slices.{WroteCorner, Grew};
+ghost use Rattle.outline.specs.Slices.{WroteCorner, Grew, Holds};
 
 // A point of an outline's plane.
 pub struct Point {
@@ -109,14 +109,11 @@ fn gather(v: &[f64], out: &mut [f64]) -> usize
 }
 
 // The Rust's clean_polygon, an inner function: its callers lend an out that is as long as v at least. The corners without equal neighbours and without last
-// corners that equal the first: out holds them, then +0.0; and how many there are.
+// corners that equal the first, at the start of out; and how many there are. What comes after them is of no account.
 pub fn clean_polygon(v: &[f64], out: &mut [f64]) -> usize
     requires { ⌜ length (now v) ≤ length (now out) ⌝ }
-    ensures { λ r. ⌜ (2 * r ≡ length (cleanPolygon (now (v .entry))))
-        × (now (out .exit) ≡ padded (cleanPolygon (now (v .entry))) (length (now (out .entry)))) ⌝ }
+    ensures { λ r. ⌜ Holds (cleanPolygon (now (v .entry))) r (now (out .exit)) ⌝ }
 {
     let m = gather(v, out);
-    let n = stay(out, m);
-    slice::clear_floats(out, 2 * n);
-    n
+    stay(out, m)
 }

@@ -1,6 +1,6 @@
 // The clipper: one ear, one flat corner or the rest at a pass, until three corners remain or none.
 ghost use mathlib.Core.Path.{_≡_};
-ghost use Prim.Native.Nat.{_*_, _<_, _≤_};
+ghost use Prim.Native.Nat.{_*_, _/_, _<_, _≤_};
 ghost use lib.ListN.{length, take};
 ghost use Rattle.outline_ears.specs.Inside.{Inside};
 ghost use Rattle.outline_triangulate.specs.Triangulate.{finished, triangulatePolygon};
@@ -108,11 +108,11 @@ fn clip(v: &[f64], eps: f64, mut left: Remaining, out: &mut [u32]) -> Clipped
     }
 }
 
-// The triangles of an outline, in a slice with a place for each that 512 corners can have.
-fn triangulate(v: &[f64], out: &mut [u32]) -> Cut
-    requires { ⌜ (length (now v) ≤ 1024) × (length (now out) ≡ 1536) ⌝ }
-    ensures { λ r. ⌜ CutAs (triangulatePolygon (now (v .entry))) r (now (out .entry)) (now (out .exit))
-        × (3 * r .triangles ≤ 1536) × (length (now (out .exit)) ≡ 1536) ⌝ }
+// The Rust's triangulate_polygon, an inner function: clip_outline and the solids refuse more than 512 corners before they call it. The triangles are at the
+// start of out, which has a place for each that the corners can have; what comes after them is left alone.
+pub fn triangulate_polygon(v: &[f64], out: &mut [u32]) -> Cut
+    requires { ⌜ (length (now v) ≤ 1024) × (3 * (length (now v) / 2) ≤ length (now out)) ⌝ }
+    ensures { λ r. ⌜ CutAs (triangulatePolygon (now (v .entry))) r (now (out .entry)) (now (out .exit)) × (3 * r .triangles ≤ length (now (out .exit))) ⌝ }
 {
     let n = v.len() / 2;
     if n < 3 {
@@ -126,14 +126,4 @@ fn triangulate(v: &[f64], out: &mut [u32]) -> Cut
     let left = clipped.left;
     let m = left.m;
     finish(v, eps, &left.idx, m, clipped.cut, out)
-}
-
-// The Rust's triangulate_polygon, an inner function: clip_outline and the solids refuse more than 512 corners before they call it. The triangles are at the
-// start of out; what comes after them is left alone.
-pub fn triangulate_polygon(v: &[f64], out: &mut [u32; 1536]) -> Cut
-    requires { ⌜ length (now v) ≤ 1024 ⌝ }
-    ensures { λ r. ⌜ CutAs (triangulatePolygon (now (v .entry))) r (now (out .entry)) (now (out .exit))
-        × (3 * r .triangles ≤ 1536) × (length (now (out .exit)) ≡ 1536) ⌝ }
-{
-    triangulate(v, out)
 }

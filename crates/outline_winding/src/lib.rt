@@ -1,12 +1,11 @@
 // The winding of an outline's corners (src/tessellate.rs, signed_area and ccw_polygon), and the axes of its plane (src/primitives/poly.rs).
 ghost use mathlib.Core.Path.{_≡_};
-ghost use Prim.Native.Nat.{_*_, _/_, _≤_};
-ghost use lib.ListN.{length};
-ghost use Rattle.outline.specs.Corners.{padded};
+ghost use Prim.Native.Nat.{_*_, _≤_};
+ghost use lib.ListN.{length, take};
 ghost use Rattle.outline.specs.Area.{wedge as wedge·, signedArea};
 ghost use Rattle.outline.specs.Ccw.{swapped, reversed, ccwPolygon, prepared};
 ghost use Rattle.outline.specs.Axes.{planeAxes};
-ghost use Rattle.outline.specs.Slices.{Copied};
+ghost use Rattle.outline.specs.Slices.{Copied, Holds};
 use outline::Axes;
 use outline::Point;
 use outline::clean_polygon;
@@ -35,16 +34,19 @@ fn signed_area(v: &[f64]) -> f64
     s / 2.0
 }
 
-// The corners of v from the last to the first, at the start of out.
-fn copy_reversed(v: &[f64], out: &mut [f64])
-    requires { ⌜ length (now v) ≤ length (now out) ⌝ }
-    ensures { λ _. ⌜ Copied (reversed (now (v .entry))) (length (now (v .entry)) / 2) (now (out .entry)) (now (out .exit)) ⌝ }
+// The Rust's p.reverse(), in place: the first n corners of out, from the last to the first.
+fn reverse(out: &mut [f64], n: usize)
+    requires { ⌜ 2 * n ≤ length (now out) ⌝ }
+    ensures { λ _. ⌜ take (2 * n) (now (out .exit)) ≡ reversed (take (2 * n) (now (out .entry))) ⌝ }
 {
-    let n = v.len() / 2;
     let mut i = 0;
-    while i < n {
-        let p = corner(v, n - 1 - i);
-        put_corner(out, i, p);
+    let mut j = n;
+    while i + 1 < j {
+        j -= 1;
+        let p = corner(out, i);
+        let q = corner(out, j);
+        put_corner(out, i, q);
+        put_corner(out, j, p);
         i += 1;
     }
 }
@@ -64,27 +66,25 @@ fn copy_swapped(v: &[f64], out: &mut [f64]) -> usize
     n
 }
 
-// The corners that the Rust's ccw_polygon returns, of 512 corners at most: cleaned, and reversed where their signed area is below 0. out holds them, then +0.0;
-// and how many there are.
-pub fn ccw_polygon(v: &[f64], out: &mut [f64; 1024]) -> usize
-    requires { ⌜ length (now v) ≤ 1024 ⌝ }
-    ensures { λ r. ⌜ (2 * r ≡ length (ccwPolygon (now (v .entry)))) × (now (out .exit) ≡ padded (ccwPolygon (now (v .entry))) 1024) ⌝ }
+// The corners that the Rust's ccw_polygon returns: cleaned, and reversed where their signed area is below 0. They are at the start of out; and how many there
+// are. What comes after them is of no account.
+pub fn ccw_polygon(v: &[f64], out: &mut [f64]) -> usize
+    requires { ⌜ length (now v) ≤ length (now out) ⌝ }
+    ensures { λ r. ⌜ Holds (ccwPolygon (now (v .entry))) r (now (out .exit)) ⌝ }
 {
     let n = clean_polygon(v, out);
-    let cleaned = *out;
-    let p = &cleaned[..2 * n];
-    if signed_area(p) < 0.0 {
-        copy_reversed(p, out);
+    if signed_area(&out[..2 * n]) < 0.0 {
+        reverse(out, n);
         return n;
     }
     n
 }
 
-// The corners that a solid is made from: those of ccw_polygon, of the corners swapped where swap says so (a rotated outline). out holds them, then +0.0; and
+// The corners that a solid is made from: those of ccw_polygon, of the corners swapped where swap says so (a rotated outline). They are at the start of out; and
 // how many there are.
-pub fn prepare(list: &[f64], swap: bool, out: &mut [f64; 1024]) -> usize
-    requires { ⌜ length (now list) ≤ 1024 ⌝ }
-    ensures { λ r. ⌜ (2 * r ≡ length (prepared swap (now (list .entry)))) × (now (out .exit) ≡ padded (prepared swap (now (list .entry))) 1024) ⌝ }
+pub fn prepare(list: &[f64], swap: bool, out: &mut [f64]) -> usize
+    requires { ⌜ (length (now list) ≤ 1024) × (length (now list) ≤ length (now out)) ⌝ }
+    ensures { λ r. ⌜ Holds (prepared swap (now (list .entry))) r (now (out .exit)) ⌝ }
 {
     if swap {
         let mut swapped = [0.0; 1024];

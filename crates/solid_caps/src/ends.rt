@@ -1,6 +1,6 @@
 // The caps of extruded_polygon and rotpoly of src/tessellate.rs, streamed into the welder. Their triangles are in a local array.
 ghost use mathlib.Core.Path.{_≡_};
-ghost use Prim.Native.Nat.{_≤_};
+ghost use Prim.Native.Nat.{_*_, _/_, _≤_};
 ghost use lib.ListN.{length};
 ghost use Rattle.mesh_balance_spec.specs.Buffer.{tris};
 ghost use Rattle.weld.specs.Rep.{held, Ready, Runs};
@@ -103,7 +103,48 @@ fn weld_caps(
     st
 }
 
-// The caps of the prepared corners p: at the one end, and where both says so turned round at the other end.
+// The caps of the prepared corners p: at the one end, and where both says so turned round at the other end. Their triangles go into caps.
+fn weld_ends_by(
+    vertices: &mut [f64],
+    triangles: &mut [u32],
+    work: &mut [u32],
+    w: Welder,
+    s: Surface,
+    p: &[f64],
+    rows: &[f64],
+    cols: &[f64],
+    caps: &mut [u32],
+    both: bool,
+    near: usize,
+    far: usize,
+) -> Welder
+    requires { ⌜ Ready (held w (now vertices) (now triangles) (now work)) ⌝ }
+    requires { ⌜ (length (now p) ≤ 1024) × CapsWithin (now p) s (now rows) (now cols) near × CapsWithin (now p) s (now rows) (now cols) far
+        × (3 * (length (now p) / 2) ≤ length (now caps)) ⌝ }
+    ensures { λ r. ⌜ Runs
+        (capsOf both (λ i. surfaceAt (now (p .entry)) s i near) (λ i. surfaceAt (now (p .entry)) s i far) (Polygons.capTriangles (now (p .entry))))
+        (held w (now (vertices .entry)) (now (triangles .entry)) (now (work .entry)))
+        (held r (now (vertices .exit)) (now (triangles .exit)) (now (work .exit))) ⌝ }
+{
+    let cut = outline_triangulate::triangulate_polygon(p, caps);
+    let m = 3 * cut.triangles;
+    weld_caps(
+        vertices,
+        triangles,
+        work,
+        w,
+        s,
+        p,
+        rows,
+        cols,
+        &caps[..m],
+        both,
+        near,
+        far,
+    )
+}
+
+// The same. The caps of at most 64 corners go into a small array, which is cleared in less time.
 pub fn weld_ends(
     vertices: &mut [f64],
     triangles: &mut [u32],
@@ -124,10 +165,25 @@ pub fn weld_ends(
         (held w (now (vertices .entry)) (now (triangles .entry)) (now (work .entry)))
         (held r (now (vertices .exit)) (now (triangles .exit)) (now (work .exit))) ⌝ }
 {
+    if p.len() <= 128 {
+        let mut caps = [0u32; 192];
+        return weld_ends_by(
+            vertices,
+            triangles,
+            work,
+            w,
+            s,
+            p,
+            rows,
+            cols,
+            &mut caps,
+            both,
+            near,
+            far,
+        );
+    }
     let mut caps = [0u32; 1536];
-    let cut = outline_triangulate::triangulate_polygon(p, &mut caps);
-    let m = 3 * cut.triangles;
-    weld_caps(
+    weld_ends_by(
         vertices,
         triangles,
         work,
@@ -136,7 +192,7 @@ pub fn weld_ends(
         p,
         rows,
         cols,
-        &caps[..m],
+        &mut caps,
         both,
         near,
         far,

@@ -56,6 +56,30 @@ fn weld_extruded_from(
     u
 }
 
+// extruded_polygon. The prepared corners go into corners.
+fn weld_extruded_by(
+    vertices: &mut [f64],
+    triangles: &mut [u32],
+    work: &mut [u32],
+    w: Welder,
+    n: usize,
+    list: &[f64],
+    lo: f64,
+    hi: f64,
+    corners: &mut [f64],
+) -> Welder
+    requires { ⌜ Ready (held w (now vertices) (now triangles) (now work)) ⌝ }
+    requires { ⌜ (n < 3) × (length (now list) ≤ 1024) × (length (now list) ≤ length (now corners)) ⌝ }
+    ensures { λ r. ⌜ Runs (Polygons.extrudedPolygon n (now (list .entry)) lo hi)
+        (held w (now (vertices .entry)) (now (triangles .entry)) (now (work .entry)))
+        (held r (now (vertices .exit)) (now (triangles .exit)) (now (work .exit))) ⌝ }
+{
+    let len = outline_winding::ccw_polygon(list, corners);
+    let m = 2 * len;
+    weld_extruded_from(vertices, triangles, work, w, n, &corners[..m], lo, hi)
+}
+
+// extruded_polygon. At most 64 corners go into a small array, which is cleared in less time.
 pub fn weld_extruded(
     vertices: &mut [f64],
     triangles: &mut [u32],
@@ -72,10 +96,12 @@ pub fn weld_extruded(
         (held w (now (vertices .entry)) (now (triangles .entry)) (now (work .entry)))
         (held r (now (vertices .exit)) (now (triangles .exit)) (now (work .exit))) ⌝ }
 {
+    if list.len() <= 128 {
+        let mut corners = [0.0; 128];
+        return weld_extruded_by(vertices, triangles, work, w, n, list, lo, hi, &mut corners);
+    }
     let mut corners = [0.0; 1024];
-    let len = outline_winding::ccw_polygon(list, &mut corners);
-    let m = 2 * len;
-    weld_extruded_from(vertices, triangles, work, w, n, &corners[..m], lo, hi)
+    weld_extruded_by(vertices, triangles, work, w, n, list, lo, hi, &mut corners)
 }
 
 // The span of which the arc's segments are counted.

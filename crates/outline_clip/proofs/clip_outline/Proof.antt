@@ -60,6 +60,9 @@ returns-3 c =
     (outcome-infinite v m (c .before .before .before .before .if1 .left) (c .before .before .before .if2 .left)
     (sym (every-all finite v) ∙ sym (c .before .before .all-finite .ensures) ∙ not-true _ (c .before .if3 .taken)))
 
+slice-aggregate-triangulate-polygon : tie.Need-slice-aggregate-triangulate-polygon
+slice-aggregate-triangulate-polygon c = search needs
+
 triangulate-polygon-requires : tie.Need-triangulate-polygon-requires
 triangulate-polygon-requires c κs = search needs
 
@@ -71,43 +74,41 @@ same-length-4 c = search needs
 
 returns-4 : tie.Need-returns-4
 returns-4 c =
-    let a = c .before .before .before .before .before .before .before .before .before .before .before .before .before .before .before .args in
+    let a = c .before .before .before .before .before .before .before .before .before .before .before .before .before .before .before .before .args in
     let v = now (a .list) in
     let m = length (now (a .triangles)) in
-    let cleared = c .before .before .before .before .before .before .before .before .before .before .before .clear-numbers in
+    let cleared = c .before .before .before .before .before .before .before .before .before .before .before .before .clear-numbers in
     let l : length (cleared .last .0) ≡ m = cleared .kept .0 in
-    let all = sym (every-all finite v) ∙ sym (c .before .before .before .before .before .before .all-finite .ensures) ∙ not-false _ (c .before .before .before .before .before .if3 .left) in
-    outcome-refused (c .refused4 .result) _ m _ _ (c .before .before .before .before .before .before .before .before .before .before .before .clear-numbers .ensures ∙ cleared-all 0 (now (a .triangles))) (c .refused4 .ensures m)
-    (outcome-room v m (c .before .before .before .before .before .before .before .before .if1 .left) (c .before .before .before .before .before .before .before .if2 .left) all _ _ _
-    (c .before .before .before .triangulate-polygon .ensures .0) (omega (arith, c .before .if4 .taken)))
+    let all = sym (every-all finite v) ∙ sym (c .before .before .before .before .before .before .before .all-finite .ensures) ∙ not-false _ (c .before .before .before .before .before .before .if3 .left) in
+    outcome-refused (c .refused4 .result) _ m _ _ (c .before .before .before .before .before .before .before .before .before .before .before .before .clear-numbers .ensures ∙ cleared-all 0 (now (a .triangles))) (c .refused4 .ensures m)
+    (outcome-room v m (c .before .before .before .before .before .before .before .before .before .if1 .left) (c .before .before .before .before .before .before .before .before .if2 .left) all _ _ _
+    (c .before .before .before .before .triangulate-polygon .ensures .0) (omega (arith, c .before .if4 .taken)))
 
 slice-aggregate-copy : tie.Need-slice-aggregate-copy
-slice-aggregate-copy c = sym (c .before .before .before .before .triangulate-polygon .ensures .2)
+slice-aggregate-copy c = search needs
 
 mul-copy : tie.Need-mul-copy
 mul-copy c = search needs
 
 copy-requires : tie.Need-copy-requires
-copy-requires c κs =
-    let t = c .before .before .before .before .before .triangulate-polygon in
-    (omega (arith, c .before .before .before .if4 .left), omega (arith, t .ensures .1, t .ensures .2))
+copy-requires c κs = search needs
 
 same-length-5 : tie.Need-same-length-5
 same-length-5 c = search needs
 
 returns-5 : tie.Need-returns-5
 returns-5 c =
-    let a = c .before .before .before .before .before .before .before .before .before .before .before .before .before .before .before .before .before .before .before .before .args in
+    let a = c .before .before .before .before .before .before .before .before .before .before .before .before .before .before .before .before .before .before .before .before .before .args in
     let v = now (a .list) in
     let m = length (now (a .triangles)) in
-    let cleared = c .before .before .before .before .before .before .before .before .before .before .before .before .before .before .before .before .clear-numbers in
+    let cleared = c .before .before .before .before .before .before .before .before .before .before .before .before .before .before .before .before .before .clear-numbers in
     let l : length (cleared .last .0) ≡ m = cleared .kept .0 in
-    let all = sym (every-all finite v) ∙ sym (c .before .before .before .before .before .before .before .before .before .before .before .all-finite .ensures) ∙ not-false _
-    (c .before .before .before .before .before .before .before .before .before .before .if3 .left) in
-    outcome-done v m (c .before .before .before .before .before .before .before .before .before .before .before .before .before .if1 .left)
-    (c .before .before .before .before .before .before .before .before .before .before .before .before .if2 .left) all _ _ _
-    (c .before .before .before .before .before .before .before .before .triangulate-polygon .ensures .0) _ _ (omega (arith, c .before .before .before .before .before .before .if4 .left))
-    (c .before .before .before .before .before .before .before .before .before .before .before .before .before .before .before .before .clear-numbers .ensures ∙ cleared-all 0 (now (a .triangles))) (c .before .before .copy .ensures)
+    let all = sym (every-all finite v) ∙ sym (c .before .before .before .before .before .before .before .before .before .before .before .before .all-finite .ensures) ∙ not-false _
+    (c .before .before .before .before .before .before .before .before .before .before .before .if3 .left) in
+    outcome-done v m (c .before .before .before .before .before .before .before .before .before .before .before .before .before .before .if1 .left)
+    (c .before .before .before .before .before .before .before .before .before .before .before .before .before .if2 .left) all _ _ _
+    (c .before .before .before .before .before .before .before .before .before .triangulate-polygon .ensures .0) _ _ (omega (arith, c .before .before .before .before .before .before .if4 .left))
+    (c .before .before .before .before .before .before .before .before .before .before .before .before .before .before .before .before .before .clear-numbers .ensures ∙ cleared-all 0 (now (a .triangles))) (c .before .before .copy .ensures)
 
 pub clip-outline-spec : {M : Type 1} → statement M
 clip-outline-spec =
@@ -124,6 +125,7 @@ clip-outline-spec =
     refused-requires-3
     same-length-3
     returns-3
+    slice-aggregate-triangulate-polygon
     triangulate-polygon-requires
     refused-requires-4
     same-length-4

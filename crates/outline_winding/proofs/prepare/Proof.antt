@@ -4,8 +4,7 @@ use mathlib.Core.Path.{sym}
 use native.Mathlib.Omega.{arith}
 use Prim.Native.Nat.{_*_}
 use lib.Seq.{length-take-le}
-use Rattle.outline.proofs.Copies.{copied-short, copied-take, prepared-swapped, prepared-as-given, prepared-is}
--- `outline_winding::prepare` meets its contract. Assumes nothing.
+use Rattle.outline.proofs.Copies.{holds-as, copied-short, copied-take, prepared-swapped, prepared-as-given}
 use borrow.Author.Needs.{needs}
 use Rattle.outline_winding.proofs.prepare.Statement.{statement}
 use Rattle.outline_winding.proofs.prepare.Tie as tie
@@ -32,20 +31,26 @@ ccw-polygon-requires c κs =
     let o = c .before .before .before .copy-swapped in
     omega (arith, copied-short _ _ _ _ (o .ensures), length-take-le (2 * o .result) (o .last .1 .0) (omega (arith, copied-short _ _ _ _ (o .ensures))))
 
+same-length : tie.Need-same-length
+same-length c = search needs
+
 returns : tie.Need-returns
 returns c =
-    let a = c .before .before .before .before .before .before .before .before .args in
-    let k = c .before .before .before .before .copy-swapped in
-    prepared-is _ _ _ _ (prepared-swapped (now (a .list)) _ (a .swap) (c .before .before .before .before .before .before .if1 .taken)
-    (copied-take (now (a .list)) (k .result) _ _ (k .ensures))) (c .ccw-polygon .ensures)
+    let a = c .before .before .before .before .before .before .before .before .before .before .before .args in
+    let k = c .before .before .before .before .before .before .copy-swapped in
+    holds-as (prepared-swapped (now (a .list)) _ (a .swap) (c .before .before .before .before .before .before .before .before .if1 .taken) (copied-take (now (a .list)) (k .result) _ _ (k .ensures)))
+    (c .before .before .ccw-polygon .ensures)
 
 ccw-polygon-requires-2 : tie.Need-ccw-polygon-requires-2
 ccw-polygon-requires-2 c κs = search needs
 
+same-length-2 : tie.Need-same-length-2
+same-length-2 c = search needs
+
 returns-2 : tie.Need-returns-2
 returns-2 c =
-    let a = c .before .before .before .before .args in
-    prepared-is _ _ _ _ (prepared-as-given (now (a .list)) (a .swap) (c .before .before .if1 .left)) (c .ccw-polygon2 .ensures)
+    let a = c .before .before .before .before .before .before .before .args in
+    holds-as (prepared-as-given (now (a .list)) (a .swap) (c .before .before .before .before .if1 .left)) (c .before .before .ccw-polygon2 .ensures)
 
 pub prepare-spec : {M : Type 1} → statement M
 prepare-spec =
@@ -57,6 +62,8 @@ prepare-spec =
     array-share-prefix-swapped
     slice-aggregate-ccw-polygon
     ccw-polygon-requires
+    same-length
     returns
     ccw-polygon-requires-2
+    same-length-2
     returns-2)

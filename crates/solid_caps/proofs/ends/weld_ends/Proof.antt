@@ -1,49 +1,62 @@
 -- `solid_caps::ends::weld_ends` meets its contract. Assumes nothing.
 use native.Mathlib.Omega.{arith}
-use mathlib.Core.Path.{sym}
-use Prim.Native.Nat.{_*_}
-use lib.Seq.{length-take-le}
-use Rattle.solid_caps.proofs.CapRuns.{caps-front, ends-run}
+use borrow.Author.Needs.{needs}
 use Rattle.solid_caps.proofs.ends.weld_ends.Statement.{statement}
 use Rattle.solid_caps.proofs.ends.weld_ends.Tie as tie
 
-triangulate-polygon-requires : tie.Need-triangulate-polygon-requires
-triangulate-polygon-requires c κs = c .before .before .before .before .before .before .before .pre .1 .0
+slice-aggregate-weld-ends-by : tie.Need-slice-aggregate-weld-ends-by
+slice-aggregate-weld-ends-by c = search needs
 
-mul-m : tie.Need-mul-m
-mul-m c = omega (arith, c .before .triangulate-polygon .ensures .1)
-
-array-share-prefix-caps : tie.Need-array-share-prefix-caps
-array-share-prefix-caps c = omega (arith, c .before .before .before .before .triangulate-polygon .ensures .1, c .before .before .before .before .triangulate-polygon .ensures .2)
-
-slice-aggregate-weld-caps : tie.Need-slice-aggregate-weld-caps
-slice-aggregate-weld-caps c = let t = c .before .before .before .before .before .triangulate-polygon in sym (length-take-le (3 * t .result .triangles) (t .last .1 .0) (omega (arith, t .ensures .1, t .ensures .2)))
-
-weld-caps-requires : tie.Need-weld-caps-requires
-weld-caps-requires c κs = (c .before .before .before .before .before .before .before .before .before .before .before .before .before .pre .0, (c .before .before .before .before .before .before .before .before .before .before .before .before .before .pre .1 .1, c .before .before .before .before .before .before .before .before .before .before .before .before .before .pre .1 .2))
+weld-ends-by-requires : tie.Need-weld-ends-by-requires
+weld-ends-by-requires c κs =
+    let d = c .before .before .before .before .before .before .before .before .before .before .before in
+    (d .pre .0, (d .pre .1 .0, d .pre .1 .1, d .pre .1 .2, omega arith))
 
 same-length : tie.Need-same-length
-same-length c = c .before .before .before .before .before .before .weld-caps .ensures .vlong
+same-length c = search needs
 
 same-length-2 : tie.Need-same-length-2
-same-length-2 c = c .before .before .before .before .before .before .weld-caps .ensures .tlong
+same-length-2 c = search needs
 
 same-length-3 : tie.Need-same-length-3
-same-length-3 c = c .before .before .before .before .before .before .weld-caps .ensures .wlong
+same-length-3 c = search needs
 
 returns : tie.Need-returns
-returns c = ends-run _ _ _ _ _ _ _ (caps-front _ _ _ _ (c .before .before .before .before .before .before .before .before .before .before .before .before .triangulate-polygon .ensures .0)) (c .before .before .before .before .before .before .weld-caps .ensures)
+returns c = search needs
+
+slice-aggregate-weld-ends-by-2 : tie.Need-slice-aggregate-weld-ends-by-2
+slice-aggregate-weld-ends-by-2 c = search needs
+
+weld-ends-by-requires-2 : tie.Need-weld-ends-by-requires-2
+weld-ends-by-requires-2 c κs =
+    let d = c .before .before .before .before .before .before .before .before .before .before .before in
+    (d .pre .0, (d .pre .1 .0, d .pre .1 .1, d .pre .1 .2, omega arith))
+
+same-length-4 : tie.Need-same-length-4
+same-length-4 c = search needs
+
+same-length-5 : tie.Need-same-length-5
+same-length-5 c = search needs
+
+same-length-6 : tie.Need-same-length-6
+same-length-6 c = search needs
+
+returns-2 : tie.Need-returns-2
+returns-2 c = search needs
 
 pub weld-ends-spec : {M : Type 1} → statement M
 weld-ends-spec =
     tie.close
     (tie.spec
-    triangulate-polygon-requires
-    mul-m
-    array-share-prefix-caps
-    slice-aggregate-weld-caps
-    weld-caps-requires
+    slice-aggregate-weld-ends-by
+    weld-ends-by-requires
     same-length
     same-length-2
     same-length-3
-    returns)
+    returns
+    slice-aggregate-weld-ends-by-2
+    weld-ends-by-requires-2
+    same-length-4
+    same-length-5
+    same-length-6
+    returns-2)

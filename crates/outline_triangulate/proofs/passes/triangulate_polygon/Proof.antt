@@ -1,4 +1,4 @@
--- `outline_triangulate::passes::triangulate` meets its contract. Assumes nothing.
+-- `outline_triangulate::passes::triangulate_polygon` meets its contract. Assumes nothing.
 use denote.Ref.{now}
 use mathlib.Core.Path.{_≡_, sym, ap, _∙_}
 use native.Mathlib.Omega.{arith}
@@ -8,11 +8,11 @@ use Rattle.outline_ears.specs.Ears.{counting}
 use Rattle.outline_triangulate.proofs.Writing.{counting-inside}
 use Rattle.outline_triangulate.proofs.Steps.{passes-start, triangulate-few, triangulate-is, cut-from, cut-short}
 use borrow.Author.Needs.{needs}
-use Rattle.outline_triangulate.proofs.passes.triangulate.Statement.{statement}
-use Rattle.outline_triangulate.proofs.passes.triangulate.Tie as tie
+use Rattle.outline_triangulate.proofs.passes.triangulate_polygon.Statement.{statement}
+use Rattle.outline_triangulate.proofs.passes.triangulate_polygon.Tie as tie
 
 returns : tie.Need-returns
-returns c = let d = c .before .before .before in (triangulate-few (now (d .args .v)) (now (d .args .out)) (c .if1 .taken), omega arith, d .pre .1)
+returns c = let d = c .before .before .before in (triangulate-few (now (d .args .v)) (now (d .args .out)) (c .if1 .taken), omega arith)
 
 tolerance-requires : tie.Need-tolerance-requires
 tolerance-requires c κs = search needs
@@ -45,14 +45,13 @@ returns-2 c =
     let v = now (a .v) in
     let n = c .before .before .before .before .before .before .before .before .before .before .before .counting in
     let s = p .ensures .state ∙ passes-start v (e .tolerance .result) (n .result) (length v / 2) (now (a .out)) (n .ensures .0) (n .ensures .2) in
-    let long : length (f .last .1 .1 .1 .1 .1 .0) ≡ 1536 = f .kept .1 .1 .1 .1 .1 .0 ∙ p .kept .1 .1 .1 .0 ∙ d .pre .1 in
     let g =
     cut-from _ _ _ (p .result .cut .triangles) (now (a .out)) _ _
     (triangulate-is v _ _ (e .before .if1 .left) (e .tolerance .ensures) s) (f .ensures .0) (p .ensures .rest) (f .ensures .1) in
-    (g, omega (arith, cut-short g), long)
+    (g, cut-short g)
 
-pub triangulate-spec : {M : Type 1} → statement M
-triangulate-spec =
+pub triangulate-polygon-spec : {M : Type 1} → statement M
+triangulate-polygon-spec =
     tie.close
     (tie.spec
     returns
