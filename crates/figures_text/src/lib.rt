@@ -7,4 +7,3 @@ pub use counts::put_count;
 pub use counts::put_counts;
 pub use counts::put_measured;
 pub use floats::put_float;
-pub use floats::put_float_bits;

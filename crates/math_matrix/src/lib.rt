@@ -18,7 +18,7 @@ pub struct Mat4 {
     pub m: [f64; 16],
 }
 
-pub fn new_row(x: f64, y: f64, z: f64, w: f64) -> Row
+fn new_row(x: f64, y: f64, z: f64, w: f64) -> Row
     ensures { λ r. ⌜ r ≡ Mat.newRow x y z w ⌝ }
 {
     Row { x, y, z, w }

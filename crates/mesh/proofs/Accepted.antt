@@ -15,7 +15,7 @@ use Rattle.refusal.specs.declared.Refusal.{Refusal}
 use Rattle.refusal.specs.declared.Refusal.the-variants.{Accepted, NotFinite, AngleTooLarge, BadList, PointNotFinite, NoRoom, BadMesh}
 use Rattle.slice.specs.Every.{countedPlaces, every}
 use Rattle.refusal.specs.Accepted.{isAccepted}
-use Rattle.mesh_check.specs.State.{State, meshOf, badMesh, notFinite, tooFewPlaces, Sound}
+use Rattle.mesh_check.specs.State.{State, meshOf, badMesh, notFinite, noRoom, Sound}
 use Rattle.mesh_move_affine.specs.Affine.{FiniteVertices}
 use Rattle.mesh_refusals.specs.Append.{appendRefusal}
 use Rattle.mesh_refusals.specs.Transform.{transformed, transformRefusal}
@@ -74,11 +74,11 @@ pub record Appends (s o : State) : Type 0 where
 module _ (s o : State) (r : Refusal) (e : r ≡ appendRefusal s o) (h : isAccepted r ≡ true) where
   good : (badMesh s || badMesh o) ≡ false
   unfolding appendRefusal
-  good = not-bad (badMesh s || badMesh o) (cond (notFinite s || notFinite o) NotFinite (cond (tooFewPlaces (append (meshOf s) (meshOf o)) (length (s .vertices)) (length (s .triangles))) NoRoom Accepted)) (sym (ap {B = Bool} isAccepted e) ∙ h)
+  good = not-bad (badMesh s || badMesh o) (cond (notFinite s || notFinite o) NotFinite (cond (noRoom (append (meshOf s) (meshOf o)) (length (s .vertices)) (length (s .triangles))) NoRoom Accepted)) (sym (ap {B = Bool} isAccepted e) ∙ h)
 
-  roomy : tooFewPlaces (append (meshOf s) (meshOf o)) (length (s .vertices)) (length (s .triangles)) ≡ false
+  roomy : noRoom (append (meshOf s) (meshOf o)) (length (s .vertices)) (length (s .triangles)) ≡ false
   unfolding appendRefusal
-  roomy = last (badMesh s || badMesh o) (notFinite s || notFinite o) (tooFewPlaces (append (meshOf s) (meshOf o)) (length (s .vertices)) (length (s .triangles))) (sym (ap {B = Bool} isAccepted e) ∙ h)
+  roomy = last (badMesh s || badMesh o) (notFinite s || notFinite o) (noRoom (append (meshOf s) (meshOf o)) (length (s .vertices)) (length (s .triangles))) (sym (ap {B = Bool} isAccepted e) ∙ h)
 
   soundS : Sound s
   soundS = sound s (neither (badMesh s) (badMesh o) good .0)
@@ -93,7 +93,7 @@ module _ (s o : State) (r : Refusal) (e : r ≡ appendRefusal s o) (h : isAccept
   tn = s .mesh .triangles + o .mesh .triangles
 
   rooms : (vn ≤ countedPlaces (length (s .vertices))) × (tn ≤ countedPlaces (length (s .triangles)))
-  unfolding tooFewPlaces
+  unfolding noRoom
   rooms =
       let vp = countedPlaces (length (s .vertices)) in
       let tp = countedPlaces (length (s .triangles)) in

@@ -6,7 +6,7 @@ use Rattle.math.specs.declared.Vec3.{Vec3}
 use Rattle.slice.specs.Every.{countedPlaces}
 use Rattle.mesh_spec.specs.Mesh.{Mesh}
 use Rattle.mesh_spec.specs.Closed.{AllThere}
-use Rattle.mesh_check.specs.State.{State, meshOf, tooFewPlaces, Sound}
+use Rattle.mesh_check.specs.State.{State, meshOf, noRoom, Sound}
 
 -- the counted places lie in the slices, and the triangles name only vertices that are there
 pub record Whole (s : State) : Type 0 where
@@ -19,14 +19,14 @@ abbrev triangle : Vec3 → Mesh
 triangle p = record { vertices = p ∷ p ∷ p ∷ []; triangles = (0, 1, 2) ∷ [] }
 
 -- they just fit; a broken place does not count
-enough-places : (p : Vec3) → tooFewPlaces (triangle p) 9 3 ≡ false
-unfolding tooFewPlaces countedPlaces
+enough-places : (p : Vec3) → noRoom (triangle p) 9 3 ≡ false
+unfolding noRoom countedPlaces
 enough-places p = refl
 
-vertices-short : (p : Vec3) → tooFewPlaces (triangle p) 8 3 ≡ true
-unfolding tooFewPlaces countedPlaces
+vertices-short : (p : Vec3) → noRoom (triangle p) 8 3 ≡ true
+unfolding noRoom countedPlaces
 vertices-short p = refl
 
-triangles-short : (p : Vec3) → tooFewPlaces (triangle p) 9 2 ≡ true
-unfolding tooFewPlaces countedPlaces
+triangles-short : (p : Vec3) → noRoom (triangle p) 9 2 ≡ true
+unfolding noRoom countedPlaces
 triangles-short p = refl

@@ -54,8 +54,8 @@ unfolding every
 notFinite s = not (every finite (take (3 * s .mesh .vertices) (s .vertices)))
 
 -- 7: slices of nv floats and nt numbers have too few whole places for the vertices or the triangles of a mesh; at most 4,294,967,295 places count
-unfoldable pub tooFewPlaces : Mesh → ℕ → ℕ → Bool
-tooFewPlaces m nv nt = ltb (countedPlaces nv) (length (m .vertices)) || ltb (countedPlaces nt) (length (m .triangles))
+unfoldable pub noRoom : Mesh → ℕ → ℕ → Bool
+noRoom m nv nt = ltb (countedPlaces nv) (length (m .vertices)) || ltb (countedPlaces nt) (length (m .triangles))
 
 -- the counted places lie in the slices, and the numbers are below the vertex count
 pub record Sound (s : State) : Type 0 where

@@ -15,7 +15,7 @@ use Rattle.mesh_spec.specs.ClosedLaws.{no-mesh-closed}
 use Rattle.mesh_spec.specs.ClosedExamples.{tetrahedron-closed}
 use Rattle.refusal.specs.declared.Refusal.the-variants.{Accepted, NoRoom}
 use Rattle.refusal.specs.Number.{numberOf}
-use Rattle.mesh_check.specs.State.{recordOf, State, state, meshOf, stored, badMesh, notFinite, tooFewPlaces, checkOf}
+use Rattle.mesh_check.specs.State.{recordOf, State, state, meshOf, stored, badMesh, notFinite, noRoom, checkOf}
 use Rattle.mesh_refusals.specs.Append.{appendRefusal}
 use Rattle.mesh_edit_law.specs.Outcome.{edited}
 use Rattle.mesh_edit_law.specs.Edits.{appendOf, flipOf}
@@ -37,16 +37,16 @@ calls = Append whole ∷ Flip ∷ Append sheet ∷ []
 
 -- the first two calls leave the tetrahedron turned, and the third changes nothing
 pub after-calls : after start calls ≡ state (recordOf 4 4) (replicate 12 plusZero) (flat (map flipTri tetrahedron))
-unfolding appendOf flipOf edited appendRefusal checkOf badMesh notFinite tooFewPlaces countedPlaces every meshOf stored append flip
+unfolding appendOf flipOf edited appendRefusal checkOf badMesh notFinite noRoom countedPlaces every meshOf stored append flip
 after-calls = refl
 
 -- there is room for the sheet at the start, and none after the first two calls
 pub sheet-accepted : appendOf start sheet .refusal ≡ Accepted
-unfolding appendOf edited appendRefusal badMesh notFinite tooFewPlaces countedPlaces every meshOf append
+unfolding appendOf edited appendRefusal badMesh notFinite noRoom countedPlaces every meshOf append
 sheet-accepted = refl
 
 pub sheet-refused : appendOf (after start (Append whole ∷ Flip ∷ [])) sheet .refusal ≡ NoRoom
-unfolding appendOf flipOf edited appendRefusal checkOf badMesh notFinite tooFewPlaces countedPlaces every meshOf stored append flip
+unfolding appendOf flipOf edited appendRefusal checkOf badMesh notFinite noRoom countedPlaces every meshOf stored append flip
 sheet-refused = refl
 
 refused : NoRoom ≡ Accepted → ⊥

@@ -13,7 +13,7 @@ use Rattle.slice_law.specs.Bools.{or-true}
 use Rattle.slice.specs.Every.{countedPlaces}
 use Rattle.mesh_spec.specs.Mesh.{Mesh, fromParts}
 use Rattle.mesh_spec.specs.Parts.{Soup, partsFinite}
-use Rattle.mesh_check.specs.State.{recordOf, state, tooFewPlaces}
+use Rattle.mesh_check.specs.State.{recordOf, state, noRoom}
 use Rattle.mesh_check.proofs.Lying.{lies}
 use Rattle.weld.specs.declared.Welder.{Welder}
 use Rattle.weld.specs.Rep.{Held, Over}
@@ -35,19 +35,19 @@ module _ (parts : List Soup) (k : Held) where
   abbrev n : Lent
   n = lent (k .vertices) (k .triangles) (k .work)
 
-  fitting : Fits m k → tooFewPlaces m (length (k .vertices)) (length (k .triangles)) ≡ false
-  unfolding tooFewPlaces
+  fitting : Fits m k → noRoom m (length (k .vertices)) (length (k .triangles)) ≡ false
+  unfolding noRoom
   fitting f = λ j. le-ltb (countedPlaces (length (k .vertices))) (length (m .vertices)) (f .0) j || le-ltb (countedPlaces (length (k .triangles))) (length (m .triangles)) (f .1) j
 
-  overfull : Over m k → tooFewPlaces m (length (k .vertices)) (length (k .triangles)) ≡ true
-  unfolding tooFewPlaces
+  overfull : Over m k → noRoom m (length (k .vertices)) (length (k .triangles)) ≡ true
+  unfolding noRoom
   overfull (inl w) = λ j. lt-ltb (countedPlaces (length (k .vertices))) (length (m .vertices)) w j || ltb (countedPlaces (length (k .triangles))) (length (m .triangles))
   overfull (inr w) =
       (λ j. ltb (countedPlaces (length (k .vertices))) (length (m .vertices)) || lt-ltb (countedPlaces (length (k .triangles))) (length (m .triangles)) w j)
       ∙ or-true (ltb (countedPlaces (length (k .vertices))) (length (m .vertices)))
 
   -- by what each test says
-  due : (b c : Bool) → not (partsFinite parts) ≡ b → tooFewPlaces m (length (k .vertices)) (length (k .triangles)) ≡ c
+  due : (b c : Bool) → not (partsFinite parts) ≡ b → noRoom m (length (k .vertices)) (length (k .triangles)) ≡ c
       → cond b PointNotFinite (cond c NoRoom Accepted) ≡ partsRefusal parts n
   unfolding partsRefusal
   due b c e f = sym (λ j. cond (e j) PointNotFinite (cond (f j) NoRoom Accepted))
@@ -71,7 +71,7 @@ module _ (parts : List Soup) (k : Held) where
       by-finite : (b : Bool) → k .st .finite ≡ b
           → Makes (partsRefusal parts n) m
           (cond b (cond (k .st .room) (acceptedWith (recordOf (k .st .count) (k .st .faces))) (refusedWith NoRoom)) (refusedWith PointNotFinite)) (k .vertices) (k .triangles)
-      by-finite false e = makes-as (due true (tooFewPlaces m (length (k .vertices)) (length (k .triangles))) (infinite false e) refl) refl
+      by-finite false e = makes-as (due true (noRoom m (length (k .vertices)) (length (k .triangles))) (infinite false e) refl) refl
           (makes-refused PointNotFinite m (k .vertices) (k .triangles) refl)
       by-finite true e = by-room e (k .st .room) refl
 

@@ -1,4 +1,4 @@
--- How a call that makes a mesh in lent slices ends (docs/SCOPE.md, "Lent memory"): the answer, and the final content of each slice. Definitions only.
+-- How a call that makes a mesh in lent slices ends (docs/SCOPE.md, R10 and R11): the answer, and the final content of each slice. Definitions only.
 use mathlib.Core.Path.{_≡_}
 use mathlib.Core.Bool.{Bool, cond}
 use mathlib.Core.List.{List, _++_}

@@ -11,7 +11,7 @@ use Rattle.slice.specs.Cleared.{clearedFrom}
 use Rattle.mesh_spec.specs.Mesh.{Mesh, fromParts}
 use Rattle.mesh_spec.specs.Parts.{Soup, partsFinite}
 use Rattle.mesh_check.specs.declared.TriMesh.{TriMesh}
-use Rattle.mesh_check.specs.State.{recordOf, state, stored, tooFewPlaces}
+use Rattle.mesh_check.specs.State.{recordOf, state, stored, noRoom}
 use Rattle.weld.specs.declared.Welder.{Welder}
 use Rattle.mesh_made.specs.declared.Made.{Made}
 use Rattle.mesh_made.specs.Made.{Lent, refusedWith, acceptedWith}
@@ -26,7 +26,7 @@ pub record Makes (q : Refusal) (m : Mesh) (r : Made) (vs : List Float) (ts : Lis
 unfoldable pub partsRefusal : List Soup → Lent → Refusal
 partsRefusal parts n =
     cond (not (partsFinite parts)) PointNotFinite
-    (cond (tooFewPlaces (fromParts parts) (n .vertices) (n .triangles)) NoRoom
+    (cond (noRoom (fromParts parts) (n .vertices) (n .triangles)) NoRoom
     Accepted)
 
 -- the same, as the welder's state tells it

@@ -8,7 +8,7 @@ use lib.Ieee.Scale.{finite}
 use Rattle.mesh_spec.specs.Mesh.{append}
 use Rattle.refusal.specs.declared.Refusal.the-variants.{Accepted, NotFinite, NoRoom, BadMesh}
 use Rattle.slice.specs.Every.{countedPlaces, every}
-use Rattle.mesh_check.specs.State.{State, meshOf, badMesh, notFinite, tooFewPlaces, Sound}
+use Rattle.mesh_check.specs.State.{State, meshOf, badMesh, notFinite, noRoom, Sound}
 use Rattle.mesh_check.proofs.Stored.{appended-vertices, appended-triangles}
 use Rattle.slice_law.specs.Bools.{not-and, not-both}
 use Rattle.mesh_refusals.specs.Append.{appendRefusal}
@@ -33,11 +33,11 @@ module _ (s o : State) where
   append-not-finite e f = rw (e, f)
 
   module _ (e : (badMesh s || badMesh o) ≡ false) (f : (notFinite s || notFinite o) ≡ false) where
-    pub append-no-room : tooFewPlaces (append (meshOf s) (meshOf o)) (length (s .vertices)) (length (s .triangles)) ≡ true → NoRoom ≡ appendRefusal s o
+    pub append-no-room : noRoom (append (meshOf s) (meshOf o)) (length (s .vertices)) (length (s .triangles)) ≡ true → NoRoom ≡ appendRefusal s o
     unfolding appendRefusal
     append-no-room g = rw (e, f, g)
 
-    pub append-accepted : tooFewPlaces (append (meshOf s) (meshOf o)) (length (s .vertices)) (length (s .triangles)) ≡ false → Accepted ≡ appendRefusal s o
+    pub append-accepted : noRoom (append (meshOf s) (meshOf o)) (length (s .vertices)) (length (s .triangles)) ≡ false → Accepted ≡ appendRefusal s o
     unfolding appendRefusal
     append-accepted g = rw (e, f, g)
 
@@ -48,10 +48,10 @@ module _ (s o : State) (ok : Sound s) (fine : Sound o) where
   abbrev tp : ℕ
   tp = countedPlaces (length (s .triangles))
 
-  room-is : tooFewPlaces (append (meshOf s) (meshOf o)) (length (s .vertices)) (length (s .triangles)) ≡ (ltb vp (s .mesh .vertices + o .mesh .vertices) || ltb tp (s .mesh .triangles + o .mesh .triangles))
-  unfolding tooFewPlaces
+  room-is : noRoom (append (meshOf s) (meshOf o)) (length (s .vertices)) (length (s .triangles)) ≡ (ltb vp (s .mesh .vertices + o .mesh .vertices) || ltb tp (s .mesh .triangles + o .mesh .triangles))
+  unfolding noRoom
   room-is = λ j. ltb vp (appended-vertices s o ok fine j) || ltb tp (appended-triangles s o ok fine j)
 
   pub room-test : {x y : ℕ} {b : Bool} → x ≡ vp → y ≡ tp → (ltb x (s .mesh .vertices + o .mesh .vertices) || ltb y (s .mesh .triangles + o .mesh .triangles)) ≡ b
-      → tooFewPlaces (append (meshOf s) (meshOf o)) (length (s .vertices)) (length (s .triangles)) ≡ b
+      → noRoom (append (meshOf s) (meshOf o)) (length (s .vertices)) (length (s .triangles)) ≡ b
   room-test e f h = room-is ∙ sym (λ j. ltb (e j) (s .mesh .vertices + o .mesh .vertices) || ltb (f j) (s .mesh .triangles + o .mesh .triangles)) ∙ h

@@ -4,12 +4,12 @@ use lib.ListN.{length}
 use Rattle.mesh_spec.specs.Mesh.{append}
 use Rattle.refusal.specs.declared.Refusal.{Refusal}
 use Rattle.refusal.specs.declared.Refusal.the-variants.{Accepted, NotFinite, NoRoom, BadMesh}
-use Rattle.mesh_check.specs.State.{State, meshOf, badMesh, notFinite, tooFewPlaces}
+use Rattle.mesh_check.specs.State.{State, meshOf, badMesh, notFinite, noRoom}
 
 -- 8 on either mesh, 1 on either, 7
 unfoldable pub appendRefusal : State → State → Refusal
-unfolding tooFewPlaces
+unfolding noRoom
 appendRefusal s o =
     cond (badMesh s || badMesh o) BadMesh
     (cond (notFinite s || notFinite o) NotFinite
-    (cond (tooFewPlaces (append (meshOf s) (meshOf o)) (length (s .vertices)) (length (s .triangles))) NoRoom Accepted))
+    (cond (noRoom (append (meshOf s) (meshOf o)) (length (s .vertices)) (length (s .triangles))) NoRoom Accepted))

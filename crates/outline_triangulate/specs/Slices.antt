@@ -8,7 +8,7 @@ use Rattle.outline_ears.specs.Inside.{Inside}
 use Rattle.outline_triangulate.specs.Triangulate.{Clipping, without, pass, passes}
 use Rattle.outline_triangulate.specs.declared.Remaining.{Remaining}
 use Rattle.outline_triangulate.specs.declared.Cut.{Cut}
-use Rattle.outline_triangulate.specs.declared.Clipped.{Clipped}
+use Rattle.outline_triangulate.specs.declared.Trimmed.{Trimmed}
 use Rattle.outline_triangulate.specs.declared.Passed.{Passed}
 use Rattle.outline_triangulate.specs.declared.Passed.the-variants.{Without, Fanned}
 
@@ -65,7 +65,7 @@ pub record Passing (v : List Float) (eps : Float) (idx : List ℕ) (m : ℕ) (c 
   pub index : indexed r m
 
 -- r is what the passes leave of w, with the Rust's guard, the square of the number of corners
-pub record Passes (v : List Float) (eps : Float) (w : Remaining) (b : List ℕ) (r : Clipped) (a : List ℕ) : Type 0 where
+pub record Passes (v : List Float) (eps : Float) (w : Remaining) (b : List ℕ) (r : Trimmed) (a : List ℕ) : Type 0 where
   pub state : clippingOf (idxOf (r .left)) (r .cut) a ≡ passes (w .m * w .m) v eps (clippingOf (idxOf w) none b)
   pub rest : drop (3 * r .cut .triangles) a ≡ drop (3 * r .cut .triangles) b
   pub few : r .left .m ≤ 3

@@ -23,7 +23,7 @@ pub(crate) enum Passed {
 }
 
 // What the passes leave: the corners that remain, three at most, and the counts.
-pub(crate) struct Clipped {
+pub(crate) struct Trimmed {
     pub left: Remaining,
     pub cut: Cut,
 }

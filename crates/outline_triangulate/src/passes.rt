@@ -5,10 +5,10 @@ ghost use lib.ListN.{length, take};
 ghost use Rattle.outline_ears.specs.Inside.{Inside};
 ghost use Rattle.outline_triangulate.specs.Triangulate.{finished, triangulatePolygon};
 ghost use Rattle.outline_triangulate.specs.Slices.{Room, none, Passing, Passes, CutAs, clippingOf};
-use crate::Clipped;
 use crate::Cut;
 use crate::Passed;
 use crate::Remaining;
+use crate::Trimmed;
 use crate::lists;
 use outline_ears::Found;
 
@@ -80,7 +80,7 @@ fn finish(v: &[f64], eps: f64, idx: &[u32; 512], m: usize, cut: Cut, out: &mut [
 }
 
 // The passes over the corners that remain, until three remain or none. A corner is taken out of the struct's own array.
-fn clip(v: &[f64], eps: f64, mut left: Remaining, out: &mut [u32]) -> Clipped
+fn clip(v: &[f64], eps: f64, mut left: Remaining, out: &mut [u32]) -> Trimmed
     requires { ⌜ (1 ≤ left .m) × Inside (now v) (left .idx) (left .m) × Room (left .m) none (now out) ⌝ }
     ensures { λ r. ⌜ Passes (now (v .entry)) eps left (now (out .entry)) r (now (out .exit)) ⌝ }
 {
@@ -102,7 +102,7 @@ fn clip(v: &[f64], eps: f64, mut left: Remaining, out: &mut [u32]) -> Clipped
             }
         }
     }
-    Clipped {
+    Trimmed {
         left: left,
         cut: cut,
     }

@@ -5,4 +5,3 @@ mod ops;
 pub use head::Head;
 pub use head::head_of;
 pub use ops::op_at;
-pub use ops::vec_at;

@@ -3,8 +3,8 @@ use mathlib.Core.List.{List}
 use Prim.Native.Nat.{ℕ}
 use Rattle.replay_format.specs.Layout.{headOf}
 use Rattle.replay_head.specs.declared.case.Case.{Case}
-use Rattle.replay_head.specs.Shapes.{shapeOf}
+use Rattle.replay_head.specs.Shapes.{shapeIn}
 
 -- its head and its shape
 abbrev pub caseOf : List ℕ → Case
-caseOf b = record { head = headOf b; shape = shapeOf (headOf b) b }
+caseOf b = record { head = headOf b; shape = shapeIn (headOf b) b }

@@ -22,5 +22,5 @@ unfoldable pub ownSystemOf : ℕ → OwnSystem
 ownSystemOf x = cond (eqb x 0) Inherited (cond (eqb x 1) (Own Cartesian) (Own Cylindrical))
 
 -- the shape of a case: ten numbers from byte 48 on
-unfoldable pub shapeOf : Head → List ℕ → Shape
-shapeOf h b = Fields.shapeOf (h .shape) (h .«norm_dir») (h .«rot_axis_dir») (floatsOf 10 (drop 48 b))
+unfoldable pub shapeIn : Head → List ℕ → Shape
+shapeIn h b = Fields.shapeOf (h .shape) (h .«norm_dir») (h .«rot_axis_dir») (floatsOf 10 (drop 48 b))

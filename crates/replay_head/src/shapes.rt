@@ -2,7 +2,7 @@
 ghost use mathlib.Core.Path.{_≡_};
 ghost use Prim.Native.Nat.{_≤_};
 ghost use lib.ListN.{length};
-ghost use Rattle.replay_head.specs.Shapes.{systemOf, ownSystemOf, shapeOf};
+ghost use Rattle.replay_head.specs.Shapes.{systemOf, ownSystemOf, shapeIn};
 use replay_format::Head;
 use shape::CoordSystem;
 use shape::OwnSystem;
@@ -35,7 +35,7 @@ pub fn own_system(x: u8) -> OwnSystem
 // The shape of a case. Its numbers start at byte 48 of the head.
 pub fn shape_of(h: Head, head: &[u8]) -> Shape
     requires { ⌜ 128 ≤ length (now head) ⌝ }
-    ensures { λ r. ⌜ r ≡ shapeOf h (now (head .entry)) ⌝ }
+    ensures { λ r. ⌜ r ≡ shapeIn h (now (head .entry)) ⌝ }
 {
     let mut numbers = [0.0; 10];
     slice_byte_lists::get_floats(&head[48..], &mut numbers);

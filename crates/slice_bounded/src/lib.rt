@@ -7,7 +7,7 @@ ghost use Rattle.slice.specs.Every.{every};
 ghost use Rattle.slice_bounded.specs.Bounded.{isBounded, Small};
 
 // Whether x is from -2^400 to 2^400. A NaN is not.
-pub fn is_bounded(x: f64) -> bool
+fn is_bounded(x: f64) -> bool
     ensures { λ r. ⌜ r ≡ isBounded x ⌝ }
 {
     (-2.5822498780869086e120 <= x) & (x <= 2.5822498780869086e120)

@@ -21,7 +21,7 @@ use Rattle.outline_caps_law.specs.Caps as Cap
 use Rattle.mesh_spec.specs.Mesh.{plusZeroV}
 use Rattle.shape.specs.Arc.{isFull}
 use Rattle.solid_spec.specs.Outline.{extrudedFrom, rotatedFrom}
-use Rattle.solid_spec.specs.Polygons.{capTriangles, extrudedPolygon, lowEnd, highEnd, linPolySoup, radialAxis, rotpoly, rotPolySoup, capCount}
+use Rattle.solid_spec.specs.Polygons.{capTriangles, extrudedPolygon, lowEnd, highEnd, linPolySoup, radialAxis, rotpoly, rotPolySoup, capNumbers}
 use Rattle.solid_spec.specs.Polygons.{radialCorners}
 use Rattle.solid_spec.proofs.Closes.{Closes, nothing-closes}
 use Rattle.solid_spec.proofs.OutlineBalanced.{extrudedFrom-closes, rotatedFrom-closes}
@@ -43,7 +43,7 @@ ccw-corners v = go (lt (signedArea (cleanPolygon v)) (ofBits binary64 0))
     go false = refl
 
 -- with n - 2 of them, the cap triangles have the outline as their boundary
-caps-bound : (p : List Float) → 3 ≤ corners p → capCount p ≡ 3 * (corners p - 2) → Bounds (capTriangles p) (cycle (corners p - 1))
+caps-bound : (p : List Float) → 3 ≤ corners p → capNumbers p ≡ 3 * (corners p - 2) → Bounds (capTriangles p) (cycle (corners p - 1))
 unfolding capTriangles
 caps-bound p h k =
     let e : corners p ≡ suc (corners p - 1) = omega arith in
@@ -57,7 +57,7 @@ ne-of x y h = ap not h
 some-corners : (p : List Float) → 3 ≤ corners p → corners p ≡ suc (corners p - 1)
 some-corners p h = omega arith
 
-extruded-closes : (n : ℕ) (p : List Float) (lo hi : Float) → eq hi lo ≡ false → capCount p ≡ 3 * (corners p - 2) → Closes (extrudedFrom n p (capTriangles p) lo hi)
+extruded-closes : (n : ℕ) (p : List Float) (lo hi : Float) → eq hi lo ≡ false → capNumbers p ≡ 3 * (corners p - 2) → Closes (extrudedFrom n p (capTriangles p) lo hi)
 extruded-closes n p lo hi u k = go (ltb (corners p) 3) refl
   where
     many : 3 ≤ corners p → Closes (extrudedFrom n p (capTriangles p) lo hi)
@@ -68,7 +68,7 @@ extruded-closes n p lo hi u k = go (ltb (corners p) 3) refl
     go false e = many (nltb→le (corners p) 3 (rw e tt))
 
 rotated-closes : (a q : ℕ) (p : List Float) (start stop : Float) (segments : ℕ)
-    → (isFull (absolute (sub binary64 stop start)) ≡ false → capCount p ≡ 3 * (corners p - 2))
+    → (isFull (absolute (sub binary64 stop start)) ≡ false → capNumbers p ≡ 3 * (corners p - 2))
     → Closes (rotatedFrom a q p (capTriangles p) start stop segments)
 rotated-closes a q p start stop segments k = go (ltb (corners p) 3) refl
   where
@@ -81,7 +81,7 @@ rotated-closes a q p start stop segments k = go (ltb (corners p) 3) refl
 
 -- `extruded_polygon` between ends that differ as floats, with n - 2 cap triangles for the n corners that `clean_polygon` leaves
 pub extrudedPolygon-balanced : (n : ℕ) (v : List Float) (lo hi : Float) → eq hi lo ≡ false
-    → capCount (ccwPolygon v) ≡ 3 * (corners (cleanPolygon v) - 2)
+    → capNumbers (ccwPolygon v) ≡ 3 * (corners (cleanPolygon v) - 2)
     → Balanced (map (mapTri plusZeroV) (extrudedPolygon n v lo hi))
 unfolding extrudedPolygon
 extrudedPolygon-balanced n v lo hi u k = extruded-closes n (ccwPolygon v) lo hi u (k ∙ ap (λ (n : ℕ). 3 * (n - 2)) (sym (ccw-corners v)))
@@ -89,7 +89,7 @@ extrudedPolygon-balanced n v lo hi u k = extruded-closes n (ccwPolygon v) lo hi 
 -- the solid LinPoly
 pub linPolySoup-balanced : (n : ℕ) (v : List Float) (elevation length' : Float)
     → eq (highEnd elevation length') (lowEnd elevation length') ≡ false
-    → capCount (ccwPolygon v) ≡ 3 * (corners (cleanPolygon v) - 2)
+    → capNumbers (ccwPolygon v) ≡ 3 * (corners (cleanPolygon v) - 2)
     → Balanced (map (mapTri plusZeroV) (linPolySoup n v elevation length'))
 unfolding linPolySoup
 linPolySoup-balanced n v e l = extrudedPolygon-balanced (min n 2) v (lowEnd e l) (highEnd e l)
@@ -97,7 +97,7 @@ linPolySoup-balanced n v e l = extrudedPolygon-balanced (min n 2) v (lowEnd e l)
 -- the solid RotPoly: of a full turn, or with n - 2 cap triangles for the n corners that `clean_polygon` leaves of those in (radial, axial) coordinates
 pub rotPolySoup-balanced : (normal a : ℕ) (v : List Float) (start stop : Float) (segments : ℕ)
     → (isFull (absolute (sub binary64 stop start)) ≡ false
-    → capCount (ccwPolygon (radialCorners a normal v)) ≡ 3 * (corners (cleanPolygon (radialCorners a normal v)) - 2))
+    → capNumbers (ccwPolygon (radialCorners a normal v)) ≡ 3 * (corners (cleanPolygon (radialCorners a normal v)) - 2))
     → Balanced (map (mapTri plusZeroV) (rotPolySoup normal a v start stop segments))
 unfolding rotPolySoup rotpoly
 rotPolySoup-balanced normal a v start stop segments k = go (ltb normal 3 && ltb a 3 && not (eqb normal a))

@@ -20,8 +20,8 @@ unfoldable pub capTriangles : List Float → List (Tri ℕ)
 capTriangles p = tris (triangulatePolygon p .triangles)
 
 -- how many corner numbers the cap triangles have, three each. They are 3 * (n - 2) at most for n corners; below two corners n - 2 is 0: no caps
-abbrev pub capCount : List Float → ℕ
-capCount p = length (triangulatePolygon p .triangles)
+abbrev pub capNumbers : List Float → ℕ
+capNumbers p = length (triangulatePolygon p .triangles)
 
 -- the ends of a LinPoly: `e.min(e + l)` and `e.max(e + l)`
 abbrev pub lowEnd : Float → Float → Float

@@ -66,9 +66,9 @@ each (s ∷ ss) = length s ∷ each ss
 abbrev sizes : Shape → List ℕ → List ℕ
 sizes shape list = each (partsOf false shape (floats list) (record { segments = 5; «sphere_rings» = 4 }))
 
--- a box: two triangles for each of its six faces
-box-size : sizes (Box (at 0 0 0) (at 1 2 3)) [] ≡ 12 ∷ []
-unfolding partsOf boxShape paramBox faces face grid vMin vMax minimum maximum isNan lt eq ofInt
+-- a box that is flat in z: two triangles for each face of the other axes, and for the low one of z
+box-size : sizes (Box (at 0 0 0) (at 1 2 0)) [] ≡ 10 ∷ []
+unfolding partsOf boxShape paramBox faces face grid vMin vMax minimum maximum isNan lt eq ofInt ofBits
 box-size = refl
 
 -- two boxes

@@ -17,7 +17,7 @@ pub fn cylindrical_by(t: SinCos, x: f64, z: f64) -> Vec3
     }
 }
 
-pub fn cylindrical_to_cartesian(p: Vec3) -> Vec3
+fn cylindrical_to_cartesian(p: Vec3) -> Vec3
     ensures { λ r. ⌜ r ≡ cylindricalToCartesian p ⌝ }
 {
     cylindrical_by(trig::sin_cos(p.y), p.x, p.z)

@@ -9,7 +9,7 @@ use Rattle.refusal.specs.Number.{numberOf}
 use Rattle.shape.specs.DrawingLaws.{AcceptedDrawing, accepted}
 use Rattle.refusal.specs.Accepted.{isAccepted, orElse}
 use Rattle.mesh_spec.specs.Parts.{partsFinite}
-use Rattle.mesh_check.specs.State.{tooFewPlaces}
+use Rattle.mesh_check.specs.State.{noRoom}
 use Rattle.mesh_made.specs.Made.{Lent, shortWork}
 use Rattle.mesh_made.specs.MadeLaws.{made-unrefused, made-holds}
 use Rattle.tessellate_spec.specs.Outcome.{Job, jobParts, finalMesh, weldedMesh, jobRefusal, badSoup, badVertex, refusalOf, tessellateOf}
@@ -40,7 +40,7 @@ pub accepted-says : (j : Job) (n : Lent) → Accepts j n → AcceptedJob j n
 unfolding tessellateOf refusalOf jobRefusal badSoup
 accepted-says j n h =
     let e = made-unrefused (refusalOf j n) (finalMesh j) n h in
-    let later = cond (tooFewPlaces (weldedMesh j) (n .vertices) (n .triangles)) NoRoom (cond (badVertex j) PointNotFinite Accepted) in
+    let later = cond (noRoom (weldedMesh j) (n .vertices) (n .triangles)) NoRoom (cond (badVertex j) PointNotFinite Accepted) in
     let p = passed (shortWork (n .vertices) (n .work)) ShortWork (orElse (jobRefusal j) (cond (badSoup j) PointNotFinite later)) (λ z. omega (arith, z)) e in
     let q = both (jobRefusal j) (cond (badSoup j) PointNotFinite later) (p .1) in
     let s = passed (badSoup j) PointNotFinite later (λ z. omega (arith, z)) (q .1) in

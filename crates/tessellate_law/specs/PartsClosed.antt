@@ -26,7 +26,7 @@ use Rattle.mesh_spec.specs.Welded.{fromSoup-closed}
 use Rattle.solid_spec.specs.Grid.{Soup}
 use Rattle.shape.specs.Arc.{isFull}
 use Rattle.mesh_spec.specs.Slices.{vertexAt}
-use Rattle.solid_spec.specs.Polygons.{capTriangles, radialCorners, capCount}
+use Rattle.solid_spec.specs.Polygons.{capTriangles, radialCorners, capNumbers}
 use Rattle.solid_spec.proofs.Points.{finite-says}
 use Rattle.solid_spec.proofs.BoxBalanced.{boxSoup-balanced}
 use Rattle.solid_spec.proofs.SphereBalanced.{sphereSoup-balanced, sphericalShellSoup-balanced}
@@ -66,7 +66,7 @@ three-each : {l : List ℕ} → Thirds l → length l ≡ 3 * length (tris l)
 three-each none = refl
 three-each (more p) = omega (arith, three-each p)
 
-counted : (p : List Float) (n : ℕ) → length (capTriangles p) ≡ n → capCount p ≡ 3 * n
+counted : (p : List Float) (n : ℕ) → length (capTriangles p) ≡ n → capNumbers p ≡ 3 * n
 unfolding capTriangles
 counted p n e = three-each (whole p) ∙ ap (λ (k : ℕ). 3 * k) e
 

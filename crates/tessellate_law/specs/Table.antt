@@ -24,6 +24,7 @@ use Rattle.mesh_balance_spec.specs.Count.{EdgesBalance}
 use Rattle.solid_spec.specs.Grid.{grid}
 use Rattle.solid_spec.specs.ParamBox.{coord, face, faces, paramBox}
 use Rattle.solid_spec.specs.Sphere.{sphere, sphereSoup}
+use Rattle.transform.specs.Ops.{noOps}
 use Rattle.shape.specs.Arc.{countedSpan, arcShare, arcSegments}
 use Rattle.solid_spec.specs.Boxes.{boxShape}
 use Rattle.shape.specs.declared.Shape.{Shape}
@@ -52,7 +53,7 @@ at a b c = record { x = float a; y = float b; z = float c }
 
 -- a shape without a list, Cartesian, with no operations
 abbrev pub drawn : Shape → TessellationOptions → Job
-drawn s o = record { shape = s; list = []; own = Inherited; default = Cartesian; options = o; degrees = false; ops = []; count = 0 }
+drawn s o = record { shape = s; list = []; own = Inherited; default = Cartesian; options = o; degrees = false; ops = noOps; count = 0 }
 
 -- 32 segments and 16 rings
 abbrev pub usual : TessellationOptions

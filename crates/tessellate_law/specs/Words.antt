@@ -1,5 +1,5 @@
 -- The words of demand 3 (docs/SCOPE.md, "Words of demand 3"), of the outcomes of `tessellate`. Definitions only.
--- `Closed`, with `NoneTwice` and `AllThere`, of a mesh is in crate mesh_spec, specs/Closed.antt; the lists of calls in crate mesh, specs/Lists.antt.
+-- `Closed`, with `NoneTwice` and `AllThere`, of a mesh is in crate mesh_spec, specs/Closed.antt; the lists of calls in crate mesh_edit_law, specs/Lists.antt.
 use mathlib.Core.Path.{_≡_}
 use mathlib.Core.Logic.{_⊎_}
 use mathlib.Core.Bool.{true, false}

@@ -14,7 +14,7 @@ use Rattle.refusal.specs.declared.Refusal.the-variants.{Accepted, NotFinite, An
 use Rattle.transform.specs.declared.TransformOp.{TransformOp}
 use Rattle.transform.specs.declared.TransformOp.the-variants.{Scale}
 use Rattle.transform.specs.Angle.{within1000}
-use Rattle.transform.specs.Ops.{opMatrix, foldFrom, folded}
+use Rattle.transform.specs.Ops.{noOp, noOps, opMatrix, foldFrom, folded}
 use Rattle.transform.specs.Checks.{opFinite, opsFinite, opAngleWithin, opsAnglesWithin}
 use Rattle.mesh_spec.specs.Mesh.{plusZeroV, samePoint, firstSight, withPoint, weldTriangle, weldSoup, fromSoup, everyFinite, append, flip, appendParts}
 use Rattle.mesh_spec.specs.Mesh.{fromParts}
@@ -32,7 +32,7 @@ use Rattle.shape.specs.Drawing.{effectiveCs, shapeCs, cylindrical, tooManySegme
 use Rattle.shape.specs.Drawing.{shapeFinite, pointWithin, pointsWithin, shapeWithin, listWithin, numbersBad, anglesBad, drawingRefusal}
 use Rattle.slice.specs.Every.{countedPlaces, every}
 use Rattle.mesh_spec.specs.Parts.{partsFinite}
-use Rattle.mesh_check.specs.State.{tooFewPlaces}
+use Rattle.mesh_check.specs.State.{noRoom}
 use Rattle.mesh_made.specs.Made.{Lent, shortWork, Ending, refusedAs, acceptedAs, madeAs}
 use Rattle.shape.specs.Rotated.{isRotPoly}
 use Rattle.solid_spec.specs.Solid.{partsOf, solidMesh}
@@ -68,11 +68,11 @@ corner = new (float 1) (float 2) (float 3)
 
 -- the box (0,0,0) to (1,2,3)
 abbrev box : Job
-box = boxJob origin corner Cartesian 32 [] 0
+box = boxJob origin corner Cartesian 32 noOps 0
 
 -- tessellateOf, with what it takes to compute it
 unfoldable computed : Job → Lent → Ending
-unfolding tessellateOf madeAs refusalOf orElse shortWork jobRefusal badSoup tooFewPlaces badVertex badPlaced placed acceptedAs refusedAs countedPlaces every
+unfolding tessellateOf madeAs refusalOf orElse shortWork jobRefusal badSoup noRoom badVertex badPlaced placed acceptedAs refusedAs countedPlaces every
     partsFinite everyFinite drawingRefusal tooManySegments badItems badList numbersBad anglesBad itemsOf listOf shapeFinite vFinite pointWithin pointsWithin
     within1000 shapeWithin listWithin opsFinite opFinite opsAnglesWithin opAngleWithin finalMesh weldedMesh jobParts partsOf solidMesh isRotPoly fromParts
     appendParts append fromSoup weldSoup weldTriangle withPoint firstSight samePoint plusZeroV shapeCs effectiveCs cylindrical boxShape paramBox faces face
@@ -88,7 +88,7 @@ unfolding computed
 fits-exactly = refl
 
 -- so does the box (0,0,0) to (1,2,0): 4 vertices and 2 triangles
-pub flat-fits-exactly : tessellateOf (boxJob origin (new (float 1) (float 2) (float 0)) Cartesian 32 [] 0) (of 12 6 8) .refusal ≡ Accepted
+pub flat-fits-exactly : tessellateOf (boxJob origin (new (float 1) (float 2) (float 0)) Cartesian 32 noOps 0) (of 12 6 8) .refusal ≡ Accepted
 unfolding computed
 flat-fits-exactly = refl
 
@@ -143,28 +143,28 @@ unfolding computed
 work-short = refl
 
 -- 3: 1,024 segments, 1,025
-segments-most : tessellateOf (boxJob origin corner Cartesian 1024 [] 0) (of 24 36 16) .refusal ≡ Accepted
+segments-most : tessellateOf (boxJob origin corner Cartesian 1024 noOps 0) (of 24 36 16) .refusal ≡ Accepted
 unfolding computed
 segments-most = refl
 
-segments-above : tessellateOf (boxJob origin corner Cartesian 1025 [] 0) (of 24 36 16) .refusal ≡ TooManySegments
+segments-above : tessellateOf (boxJob origin corner Cartesian 1025 noOps 0) (of 24 36 16) .refusal ≡ TooManySegments
 unfolding computed
 segments-above = refl
 
 -- 2: the angle 1,000 and the next float above it
-angle-most : jobRefusal (boxJob origin (new (float 1) (float 1000) (float 1)) Cylindrical 3 [] 0) ≡ Accepted
+angle-most : jobRefusal (boxJob origin (new (float 1) (float 1000) (float 1)) Cylindrical 3 noOps 0) ≡ Accepted
 unfolding computed
 angle-most = refl
 
 above-1000 : Float
 above-1000 = ofBits binary64 0x408F_4000_0000_0001
 
-angle-above : jobRefusal (boxJob origin (new (float 1) above-1000 (float 1)) Cylindrical 3 [] 0) ≡ AngleTooLarge
+angle-above : jobRefusal (boxJob origin (new (float 1) above-1000 (float 1)) Cylindrical 3 noOps 0) ≡ AngleTooLarge
 unfolding computed above-1000
 angle-above = refl
 
 -- the same number is no angle in the Cartesian system
-no-angle : jobRefusal (boxJob origin (new (float 1) above-1000 (float 1)) Cartesian 3 [] 0) ≡ Accepted
+no-angle : jobRefusal (boxJob origin (new (float 1) above-1000 (float 1)) Cartesian 3 noOps 0) ≡ Accepted
 unfolding computed above-1000
 no-angle = refl
 
@@ -172,7 +172,7 @@ no-angle = refl
 huge : Float
 huge = ofBits binary64 0x7FE1_CCF3_85EB_C8A0
 
-soup-not-finite : tessellateOf (boxJob (new (neg huge) (float 0) (float 0)) (new huge (float 2) (float 3)) Cartesian 32 [] 0) (of 24 36 16) .refusal
+soup-not-finite : tessellateOf (boxJob (new (neg huge) (float 0) (float 0)) (new huge (float 2) (float 3)) Cartesian 32 noOps 0) (of 24 36 16) .refusal
     ≡ PointNotFinite
 unfolding computed huge
 soup-not-finite = refl
@@ -186,19 +186,23 @@ triangles-short : tessellateOf box (of 24 35 16) .refusal ≡ NoRoom
 unfolding computed
 triangles-short = refl
 
+-- 16 operations, the first of which scales by the huge number
+abbrev hugeOps : List TransformOp
+hugeOps = Scale huge ∷ replicate 15 noOp
+
 -- 5: transformed vertices
-vertex-not-finite : tessellateOf (boxJob origin corner Cartesian 32 (Scale huge ∷ []) 1) (of 24 36 16) .refusal ≡ PointNotFinite
+vertex-not-finite : tessellateOf (boxJob origin corner Cartesian 32 hugeOps 1) (of 24 36 16) .refusal ≡ PointNotFinite
 unfolding computed huge
 vertex-not-finite = refl
 
 -- an operation beyond the count is not read
-beyond-count : tessellateOf (boxJob origin corner Cartesian 32 (Scale huge ∷ []) 0) (of 24 36 16) .refusal ≡ Accepted
+beyond-count : tessellateOf (boxJob origin corner Cartesian 32 hugeOps 0) (of 24 36 16) .refusal ≡ Accepted
 unfolding computed huge
 beyond-count = refl
 
 -- ---- the order of the checks: where two are due, the first one answers
 
-6-before-3 : tessellateOf (boxJob origin corner Cartesian 1025 [] 0) (of 24 36 15) .refusal ≡ ShortWork
+6-before-3 : tessellateOf (boxJob origin corner Cartesian 1025 noOps 0) (of 24 36 15) .refusal ≡ ShortWork
 unfolding computed
 6-before-3 = refl
 
@@ -210,20 +214,20 @@ unfolding computed
 unfolding computed
 4-before-1 = refl
 
-1-before-2 : tessellateOf (boxJob origin (new nan above-1000 (float 3)) Cylindrical 3 [] 0) (of 24 36 16) .refusal ≡ NotFinite
+1-before-2 : tessellateOf (boxJob origin (new nan above-1000 (float 3)) Cylindrical 3 noOps 0) (of 24 36 16) .refusal ≡ NotFinite
 unfolding computed above-1000
 1-before-2 = refl
 
-2-before-5 : tessellateOf (boxJob (new (neg huge) (float 0) (float 0)) (new huge above-1000 (float 3)) Cylindrical 3 [] 0) (of 24 36 16) .refusal
+2-before-5 : tessellateOf (boxJob (new (neg huge) (float 0) (float 0)) (new huge above-1000 (float 3)) Cylindrical 3 noOps 0) (of 24 36 16) .refusal
     ≡ AngleTooLarge
 unfolding computed above-1000 huge
 2-before-5 = refl
 
-5-before-7 : tessellateOf (boxJob (new (neg huge) (float 0) (float 0)) (new huge (float 2) (float 3)) Cartesian 32 [] 0) (of 0 0 0) .refusal ≡ PointNotFinite
+5-before-7 : tessellateOf (boxJob (new (neg huge) (float 0) (float 0)) (new huge (float 2) (float 3)) Cartesian 32 noOps 0) (of 0 0 0) .refusal ≡ PointNotFinite
 unfolding computed huge
 5-before-7 = refl
 
-7-before-5 : tessellateOf (boxJob origin corner Cartesian 32 (Scale huge ∷ []) 1) (of 23 36 16) .refusal ≡ NoRoom
+7-before-5 : tessellateOf (boxJob origin corner Cartesian 32 hugeOps 1) (of 23 36 16) .refusal ≡ NoRoom
 unfolding computed huge
 7-before-5 = refl
 

@@ -33,7 +33,7 @@ use Rattle.shape.specs.declared.CoordSystem.{CoordSystem}
 use Rattle.shape.specs.declared.TessellationOptions.{TessellationOptions}
 use Rattle.shape.specs.Drawing.{cylindrical, shapeCs, drawingRefusal}
 use Rattle.slice.specs.Every.{every}
-use Rattle.mesh_check.specs.State.{tooFewPlaces}
+use Rattle.mesh_check.specs.State.{noRoom}
 use Rattle.mesh_made.specs.Made.{Lent, shortWork, Ending, madeAs}
 use Rattle.solid_spec.specs.Solid.{partsOf, solidMesh}
 
@@ -104,7 +104,7 @@ refusalOf j n =
     cond (shortWork (n .vertices) (n .work)) ShortWork
     (orElse (jobRefusal j)
     (cond (badSoup j) PointNotFinite
-    (cond (tooFewPlaces (weldedMesh j) (n .vertices) (n .triangles)) NoRoom
+    (cond (noRoom (weldedMesh j) (n .vertices) (n .triangles)) NoRoom
     (cond (badVertex j) PointNotFinite
     Accepted))))
 

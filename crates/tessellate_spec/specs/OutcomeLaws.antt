@@ -13,7 +13,7 @@ use Rattle.mesh_spec.specs.Mesh.{Mesh, flip, fromParts}
 use Rattle.mesh_spec.specs.Measures.{signedVolume}
 use Rattle.mesh_spec.specs.Parts.{partsFinite}
 use Rattle.shape.specs.Rotated.{isRotPoly}
-use Rattle.mesh_check.specs.State.{tooFewPlaces}
+use Rattle.mesh_check.specs.State.{noRoom}
 use Rattle.mesh_made.specs.Made.{Lent, shortWork}
 use Rattle.mesh_made.specs.Steps.{partsRefusal}
 use Rattle.solid_spec.specs.Solid.{outward, outwardIf, solidMesh}
@@ -37,8 +37,8 @@ module _ (j : Job) where
   unfolding weldedMesh solidMesh
   welded-is = refl
 
-  places-same : (n : Lent) → tooFewPlaces (weldedMesh j) (n .vertices) (n .triangles) ≡ tooFewPlaces (fromParts (jobParts j)) (n .vertices) (n .triangles)
-  unfolding tooFewPlaces
+  places-same : (n : Lent) → noRoom (weldedMesh j) (n .vertices) (n .triangles) ≡ noRoom (fromParts (jobParts j)) (n .vertices) (n .triangles)
+  unfolding noRoom
   places-same n =
       let c = outward-counts (isRotPoly (j .shape)) (fromParts (jobParts j)) in
       (λ i. ltb (countedPlaces (n .vertices)) (length (welded-is i .vertices)) || ltb (countedPlaces (n .triangles)) (length (welded-is i .triangles)))
@@ -50,9 +50,9 @@ module _ (j : Job) (n : Lent) where
   later soup places = cond soup PointNotFinite (cond places NoRoom (cond (badVertex j) PointNotFinite Accepted))
 
   by-tests : (work : Bool) (drawing : Refusal) → shortWork (n .vertices) (n .work) ≡ work → jobRefusal j ≡ drawing
-      → refusalOf j n ≡ cond work ShortWork (orElse drawing (later (badSoup j) (tooFewPlaces (weldedMesh j) (n .vertices) (n .triangles))))
+      → refusalOf j n ≡ cond work ShortWork (orElse drawing (later (badSoup j) (noRoom (weldedMesh j) (n .vertices) (n .triangles))))
   unfolding refusalOf
-  by-tests work drawing a b = λ i. cond (a i) ShortWork (orElse (b i) (later (badSoup j) (tooFewPlaces (weldedMesh j) (n .vertices) (n .triangles))))
+  by-tests work drawing a b = λ i. cond (a i) ShortWork (orElse (b i) (later (badSoup j) (noRoom (weldedMesh j) (n .vertices) (n .triangles))))
 
   -- 6
   pub at-work : shortWork (n .vertices) (n .work) ≡ true → ShortWork ≡ refusalOf j n
@@ -71,7 +71,7 @@ module _ (j : Job) (n : Lent) where
       sym
       (by-tests false Accepted a b
       ∙ (λ i. later (not (partsFinite (jobParts j))) (places-same j n i))
-      ∙ chosen (not (partsFinite (jobParts j))) (tooFewPlaces (fromParts (jobParts j)) (n .vertices) (n .triangles))
+      ∙ chosen (not (partsFinite (jobParts j))) (noRoom (fromParts (jobParts j)) (n .vertices) (n .triangles))
       (cond (badVertex j) PointNotFinite Accepted))
     where
       chosen : (b c : Bool) (z : Refusal) → cond b PointNotFinite (cond c NoRoom z) ≡ orElse (cond b PointNotFinite (cond c NoRoom Accepted)) z

@@ -42,7 +42,7 @@ fn rotation(axis: Vec3, a: f64, degrees: bool) -> Mat4
 }
 
 // The matrix of an operation.
-pub fn op_matrix(op: TransformOp, degrees: bool) -> Mat4
+fn op_matrix(op: TransformOp, degrees: bool) -> Mat4
     ensures { λ m. ⌜ m ≡ Ops.opMatrix degrees op ⌝ }
 {
     match op {

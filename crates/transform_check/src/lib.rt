@@ -22,7 +22,7 @@ fn row_finite(r: Row) -> bool
 }
 
 // Whether every number of an operation is finite.
-pub fn op_finite(op: TransformOp) -> bool
+fn op_finite(op: TransformOp) -> bool
     ensures { λ w. ⌜ w ≡ Checks.opFinite op ⌝ }
 {
     match op {
@@ -63,7 +63,7 @@ pub fn within_1000(r: Radians) -> bool
 }
 
 // Whether the rotation angle of an operation is within 1000, in radians. True of an operation without one.
-pub fn op_angle_within(op: TransformOp, degrees: bool) -> bool
+fn op_angle_within(op: TransformOp, degrees: bool) -> bool
     ensures { λ w. ⌜ w ≡ Checks.opAngleWithin degrees op ⌝ }
 {
     match op {

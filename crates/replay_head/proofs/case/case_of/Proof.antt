@@ -2,7 +2,7 @@
 use mathlib.Core.Path.{_∙_, ap}
 use denote.Ref.{now}
 use Rattle.replay_format.specs.declared.head.Head.{Head}
-use Rattle.replay_head.specs.Shapes.{shapeOf}
+use Rattle.replay_head.specs.Shapes.{shapeIn}
 use borrow.Author.Needs.{needs}
 use Rattle.replay_head.proofs.case.case_of.Statement.{statement}
 use Rattle.replay_head.proofs.case.case_of.Tie as tie
@@ -17,7 +17,7 @@ returns : tie.Need-returns
 returns c =
     let b = now (c .before .before .before .before .args .b) in
     let e = c .before .before .head-of .ensures in
-    let s = c .shape-of .ensures ∙ ap (λ (h : Head). shapeOf h b) e in
+    let s = c .shape-of .ensures ∙ ap (λ (h : Head). shapeIn h b) e in
     (λ i. record { head = e i; shape = s i })
 
 pub case-of-spec : {M : Type 1} → statement M

@@ -10,7 +10,7 @@ use lib.Seq.{take-all}
 use lib.Ieee.{Float}
 use Rattle.slice_byte_lists.specs.Lists.{floatsOf}
 use Rattle.shape_fields.specs.Fields as Fields
-use Rattle.replay_head.specs.Shapes.{shapeOf}
+use Rattle.replay_head.specs.Shapes.{shapeIn}
 use Rattle.replay_head.proofs.shapes.shape_of.Statement.{statement}
 use Rattle.replay_head.proofs.shapes.shape_of.Tie as tie
 
@@ -33,7 +33,7 @@ shape-of-requires : tie.Need-shape-of-requires
 shape-of-requires c κs = search needs
 
 returns : tie.Need-returns
-unfolding shapeOf
+unfolding shapeIn
 returns c =
     let s = c .before .before .before .before .before .before .before .args in
     let rest = drop 48 (now (s .head)) in
