@@ -87,7 +87,7 @@ fn places() -> Lent {
     Lent::new(1 << 22, 1 << 23)
 }
 
-/// The bytes of stack that a call takes.
+/// The bytes of stack that a call takes, or what is not filled where it takes no more.
 #[inline(never)]
 fn taken(call: impl FnOnce()) -> usize {
     let mark = 0u8;
@@ -102,5 +102,5 @@ fn taken(call: impl FnOnce()) -> usize {
         (lowest..top).find(|&at| unsafe { std::ptr::with_exposed_provenance::<u8>(at).read_volatile() } != FILL);
     assert_ne!(first, Some(lowest), "more stack than is watched");
     black_box(&mark);
-    first.map_or(0, |at| top + SKIPPED - at)
+    first.map_or(SKIPPED, |at| top + SKIPPED - at)
 }
