@@ -55,7 +55,7 @@ pub fn tolerance(v: &[f64]) -> f64
 }
 
 // Whether each of cross(a, b, p), cross(b, c, p) and cross(c, a, p) is at least -eps. Most corners lie beyond the side from c to a or that from b to c.
-// These two are one test with one branch: of infinities and NaNs each by itself passes about half the time. The order does not change the answer.
+// These two are one test, which takes less time where numbers overflow to infinities and NaNs. The order does not change the answer.
 fn in_triangle(eps: f64, a: Point, b: Point, c: Point, p: Point) -> bool
     ensures { λ r. ⌜ r ≡ inTriangle eps a b c p ⌝ }
 {

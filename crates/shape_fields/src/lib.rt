@@ -4,7 +4,7 @@ ghost use Rattle.shape_fields.specs.Fields.{pointAt, pointed, shapeOf};
 use math::Vec3;
 use shape::Shape;
 
-// Three numbers from place 0 or 3 on.
+// The point of the first three numbers.
 fn first_point(n: &[f64; 10]) -> Vec3
     ensures { λ r. ⌜ r ≡ pointAt (now (n .entry)) 0 ⌝ }
 {
@@ -15,6 +15,7 @@ fn first_point(n: &[f64; 10]) -> Vec3
     }
 }
 
+// The point of the three numbers after them.
 fn second_point(n: &[f64; 10]) -> Vec3
     ensures { λ r. ⌜ r ≡ pointAt (now (n .entry)) 3 ⌝ }
 {
@@ -56,7 +57,7 @@ fn with_points(kind: u8, n: &[f64; 10]) -> Shape
     }
 }
 
-// The shape of the kind, 0 to 9 in the order of `Shape`; any other number counts as 5. What a kind has no use for is not read.
+// The shape of the kind, 0 to 9 in the order of `Shape`; any other number counts as 5. Numbers and directions that a kind has no use for change nothing.
 pub fn shape_of(kind: u8, norm_dir: u8, rot_axis_dir: u8, n: &[f64; 10]) -> Shape
     ensures { λ r. ⌜ r ≡ shapeOf kind «norm_dir» «rot_axis_dir» (now (n .entry)) ⌝ }
 {
