@@ -15,7 +15,8 @@ use Rattle.mesh_balance_spec.specs.Grid.{path, Bounds}
 use Rattle.mesh_balance_spec.specs.Prism as Prism
 use Rattle.mesh_balance_spec.specs.Buffer.{tris}
 use Rattle.outline.specs.Ccw.{prepared}
-use Rattle.outline_ears.specs.Ears.{tolerance, counting}
+use Rattle.outline_triangle.specs.Triangle.{tolerance}
+use Rattle.outline_ears.specs.Ears.{counting}
 use Rattle.outline_triangulate.specs.Triangulate.{Clipping, start, passes, finished, triangulated, triangulatePolygon}
 use Rattle.outline_caps_law.specs.Edges.{edges, chain, cycle, none, few-cycle}
 use Rattle.outline_caps_law.specs.Kept.{Kept, kept-on, passes-kept, finished-kept, total, coming}

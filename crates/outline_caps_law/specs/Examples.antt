@@ -7,7 +7,8 @@ use lib.Ieee.{Float, fin, sub, mul, neg, add, sum, round, size, span, climb, uni
 use lib.Count.{trailingZeros}
 use Rattle.ieee.specs.Number.{absolute, maximum}
 use Rattle.outline.specs.Corners.{point, same}
-use Rattle.outline_ears.specs.Ears.{cross, largest, scale, tolerance, inTriangle, blocks, any, blocked, ip, inx, earAt, crossAt, isEar, isFlat, counting, find}
+use Rattle.outline_triangle.specs.Triangle.{cross, largest, scale, tolerance, inTriangle, blocks}
+use Rattle.outline_ears.specs.Ears.{any, blocked, ip, inx, earAt, crossAt, isEar, isFlat, counting, find}
 use Rattle.outline_ears.specs.Ears.{firstEar, firstFlat}
 use Rattle.outline_triangulate.specs.Triangulate.{without, clipped, dropped, fans, fan, fanned, byFound, pass, passes, finished, start, triangulated}
 use Rattle.outline_triangulate.specs.Triangulate.{triangulatePolygon}

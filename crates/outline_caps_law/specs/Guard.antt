@@ -10,7 +10,8 @@ use lib.Dec.{eqb, ltb}
 use lib.Ieee.{Float, lt}
 use borrow.Author.Tests.{ltb-true, ltb-false, le-ltb}
 use Rattle.outline.specs.Corners.{point}
-use Rattle.outline_ears.specs.Ears.{cross, tolerance, counting, isEar, isFlat, firstEar, firstFlat}
+use Rattle.outline_triangle.specs.Triangle.{cross, tolerance}
+use Rattle.outline_ears.specs.Ears.{counting, isEar, isFlat, firstEar, firstFlat}
 use Rattle.outline_ears.specs.declared.Found.{Found}
 use Rattle.outline_ears.specs.declared.Found.the-variants.{At, Nothing}
 use Rattle.outline_ears.proofs.Laws.{find-below}

@@ -11,7 +11,8 @@ use lib.Ieee.{Float, lt}
 use borrow.Author.Tests.{ltb-true, eqb-true}
 use Rattle.mesh_balance_spec.specs.Soup.{Weight, rev}
 use Rattle.outline.specs.Corners.{point}
-use Rattle.outline_ears.specs.Ears.{cross, ip, inx, isEar, isFlat, firstEar, firstFlat}
+use Rattle.outline_triangle.specs.Triangle.{cross}
+use Rattle.outline_ears.specs.Ears.{ip, inx, isEar, isFlat, firstEar, firstFlat}
 use Rattle.outline_ears.specs.declared.Found.{Found}
 use Rattle.outline_ears.specs.declared.Found.the-variants.{At, Nothing}
 use Rattle.outline_ears.proofs.Laws.{find-below}

@@ -1,98 +1,16 @@
 // The searches of the ear clipper (src/tessellate.rs, triangulate_polygon). v is the corner list, two floats to a corner. The Rust's idx, the numbers of the
 // corners that remain, is the first m numbers of the array idx.
-use outline::Point;
+use outline_triangle::Ear;
 ghost use mathlib.Core.Path.{_≡_};
-ghost use Prim.Native.Nat.{_+_, _-_, _*_, _%_, _<_, _≤_};
-ghost use lib.ListN.{length, take};
-ghost use Rattle.outline.specs.Corners.{point};
-ghost use Rattle.outline_ears.specs.Ears.{cross as cross·, tolerance as tolerance·, inTriangle, blocks as blocks·, blocked as blocked·};
-ghost use Rattle.outline_ears.specs.Ears.{earAt, isEar, firstEar, firstFlat};
+ghost use Prim.Native.Nat.{_+_, _-_, _%_, _<_, _≤_};
+ghost use lib.ListN.{take};
+ghost use Rattle.outline_ears.specs.Ears.{blocked as blocked·, earAt, isEar, firstEar, firstFlat};
 ghost use Rattle.outline_ears.specs.Inside.{Inside};
-
-// The Rust's ip, ic and inx, the corner numbers at an index of idx and at the indices before and after it; and a, b and c, their points.
-pub struct Ear {
-    pub ip: u32,
-    pub ic: u32,
-    pub inx: u32,
-    pub a: Point,
-    pub b: Point,
-    pub c: Point,
-}
 
 // What a search finds: an index of idx.
 pub enum Found {
     At(usize),
     Nothing,
-}
-
-// The point of corner o: the Rust's v[o].
-pub fn point_of(v: &[f64], o: u32) -> Point
-    requires { ⌜ 2 * o + 1 < length (now v) ⌝ }
-    ensures { λ r. ⌜ r ≡ point (now (v .entry)) o ⌝ }
-{
-    outline::corner(v, o as usize)
-}
-
-// The Rust's closure cross, of the points a, b and c: above 0 where they run counter-clockwise.
-pub fn cross(a: Point, b: Point, c: Point) -> f64
-    ensures { λ r. ⌜ r ≡ cross· a b c ⌝ }
-{
-    (b.x - a.x) * (c.y - a.y) - (b.y - a.y) * (c.x - a.x)
-}
-
-// The Rust's eps: 1e-12 times the square of scale, the largest absolute value of a coordinate, 1e-300 at least.
-pub fn tolerance(v: &[f64]) -> f64
-    ensures { λ r. ⌜ r ≡ tolerance· (now (v .entry)) ⌝ }
-{
-    let mut m = 0.0;
-    let mut i = 0;
-    while i < v.len() {
-        m = ieee::max(m, ieee::abs(v[i]));
-        i += 1;
-    }
-    let scale = ieee::max(m, 1e-300);
-    1e-12 * scale * scale
-}
-
-// Whether each of cross(a, b, p), cross(b, c, p) and cross(c, a, p) is at least -eps. Most corners lie beyond the side from c to a or that from b to c.
-// These two are one test, which takes less time where numbers overflow to infinities and NaNs. The order does not change the answer.
-fn in_triangle(eps: f64, a: Point, b: Point, c: Point, p: Point) -> bool
-    ensures { λ r. ⌜ r ≡ inTriangle eps a b c p ⌝ }
-{
-    if (cross(c, a, p) >= -eps) & (cross(b, c, p) >= -eps) {
-        return cross(a, b, p) >= -eps;
-    }
-    false
-}
-
-// Whether corner o keeps t from being clipped. Most corners lie outside, so that is asked first; the order does not change the answer.
-fn blocks(v: &[f64], eps: f64, t: Ear, o: u32) -> bool
-    requires { ⌜ 2 * o + 1 < length (now v) ⌝ }
-    ensures { λ r. ⌜ r ≡ blocks· (now (v .entry)) eps t o ⌝ }
-{
-    let p = point_of(v, o);
-    if !in_triangle(eps, t.a, t.b, t.c, p) {
-        return false;
-    }
-    if o == t.ip {
-        return false;
-    }
-    if o == t.ic {
-        return false;
-    }
-    if o == t.inx {
-        return false;
-    }
-    if outline::same(p, t.a) {
-        return false;
-    }
-    if outline::same(p, t.b) {
-        return false;
-    }
-    if outline::same(p, t.c) {
-        return false;
-    }
-    true
 }
 
 // The Rust's blocked: whether some corner that remains keeps t from being clipped.
@@ -103,7 +21,7 @@ fn blocked(v: &[f64], eps: f64, t: Ear, idx: &[u32; 512], m: usize) -> bool
     let mut q = 0;
     while q < m {
         let o = idx[q];
-        if blocks(v, eps, t, o) {
+        if outline_triangle::blocks(v, eps, t, o) {
             return true;
         }
         q += 1;
@@ -145,9 +63,9 @@ pub fn ear_at(v: &[f64], idx: &[u32; 512], m: usize, k: usize) -> Ear
         ip: ip,
         ic: ic,
         inx: inx,
-        a: point_of(v, ip),
-        b: point_of(v, ic),
-        c: point_of(v, inx),
+        a: outline_triangle::point_of(v, ip),
+        b: outline_triangle::point_of(v, ic),
+        c: outline_triangle::point_of(v, inx),
     }
 }
 
@@ -172,7 +90,7 @@ fn is_ear(v: &[f64], eps: f64, idx: &[u32; 512], m: usize, k: usize) -> bool
     ensures { λ r. ⌜ r ≡ isEar (now (v .entry)) eps (take m (now (idx .entry))) k ⌝ }
 {
     let t = ear_at(v, idx, m, k);
-    if cross(t.a, t.b, t.c) <= eps {
+    if outline_triangle::cross(t.a, t.b, t.c) <= eps {
         return false;
     }
     !blocked(v, eps, t, idx, m)
@@ -186,7 +104,7 @@ pub fn first_flat(v: &[f64], eps: f64, idx: &[u32; 512], m: usize) -> Found
     let mut j = 0;
     while j < m {
         let t = ear_at(v, idx, m, j);
-        if ieee::abs(cross(t.a, t.b, t.c)) <= eps {
+        if ieee::abs(outline_triangle::cross(t.a, t.b, t.c)) <= eps {
             return Found::At(j);
         }
         j += 1;

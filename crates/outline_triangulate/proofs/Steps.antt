@@ -11,9 +11,10 @@ use lib.Ieee.{Float, lt}
 use borrow.Author.Tests.{eq-eqb, ne-eqb, lt-ltb, le-ltb}
 use Rattle.slice_law.specs.Lists.{drop-further}
 use Rattle.outline.specs.Corners.{point}
-use Rattle.outline_ears.specs.Ears.{cross, tolerance, ip, inx, counting, earAt, isEar, isFlat, firstEar, firstFlat}
+use Rattle.outline_triangle.specs.Triangle.{cross, tolerance}
+use Rattle.outline_ears.specs.Ears.{ip, inx, counting, earAt, isEar, isFlat, firstEar, firstFlat}
 use Rattle.outline_ears.specs.Inside.{Inside}
-use Rattle.outline_ears.specs.declared.Ear.{Ear}
+use Rattle.outline_triangle.specs.declared.Ear.{Ear}
 use Rattle.outline_ears.specs.declared.Found.{Found}
 use Rattle.outline_ears.specs.declared.Found.the-variants.{At, Nothing}
 use Rattle.outline_ears.proofs.Laws.{idx-length, idx-at, find-below}

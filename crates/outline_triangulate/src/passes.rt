@@ -62,10 +62,10 @@ fn finish(v: &[f64], eps: f64, idx: &[u32; 512], m: usize, cut: Cut, out: &mut [
         let i = idx[0];
         let j = idx[1];
         let k = idx[2];
-        if outline_ears::cross(
-            outline_ears::point_of(v, i),
-            outline_ears::point_of(v, j),
-            outline_ears::point_of(v, k),
+        if outline_triangle::cross(
+            outline_triangle::point_of(v, i),
+            outline_triangle::point_of(v, j),
+            outline_triangle::point_of(v, k),
         )
             > eps
         {
@@ -121,7 +121,7 @@ pub fn triangulate_polygon(v: &[f64], out: &mut [u32]) -> Cut
             removed: 0,
         };
     }
-    let eps = outline_ears::tolerance(v);
+    let eps = outline_triangle::tolerance(v);
     let clipped = clip(v, eps, lists::counting(n), out);
     let left = clipped.left;
     let m = left.m;

@@ -15,7 +15,8 @@ use Rattle.outline.specs.Axes.{planeAxes}
 use Rattle.outline.specs.Clean.{endsIn, pushed, gathered, stay, cleanPolygon}
 use Rattle.outline.specs.Ccw.{swapped, reversed, ccwPolygon, prepared}
 use Rattle.outline.specs.Area.{wedge, sides, signedArea}
-use Rattle.outline_ears.specs.Ears.{cross as turn, largest, scale, tolerance, inTriangle, blocks, any, blocked, ip, inx}
+use Rattle.outline_triangle.specs.Triangle.{cross as turn, largest, scale, tolerance, inTriangle, blocks}
+use Rattle.outline_ears.specs.Ears.{any, blocked, ip, inx}
 use Rattle.outline_ears.specs.Ears.{earAt, crossAt, isEar, isFlat, counting, find, firstEar, firstFlat}
 use Rattle.outline_triangulate.specs.Triangulate.{without, clipped, dropped, fans, fan, fanned, byFound, pass, passes, finished, start}
 use Rattle.outline_triangulate.specs.Triangulate.{triangulated, triangulatePolygon}

@@ -16,7 +16,7 @@ use Rattle.math.specs.declared.Vec3.{Vec3}
 use Rattle.math.specs.Vec.{vFinite}
 use Rattle.mesh_balance_spec.specs.Buffer.{tris}
 use Rattle.outline.specs.Ccw.{ccwPolygon}
-use Rattle.outline_ears.specs.Ears.{tolerance}
+use Rattle.outline_triangle.specs.Triangle.{tolerance}
 use Rattle.outline_triangulate.specs.Triangulate.{Clipping, start, passes, finished, triangulated, triangulatePolygon}
 use Rattle.outline_caps_law.specs.Edges.{Thirds, none, more}
 use Rattle.outline_caps_law.specs.Kept.{passes-kept, finished-kept}

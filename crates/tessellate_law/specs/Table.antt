@@ -14,7 +14,8 @@ use Rattle.math.specs.declared.Vec3.{Vec3}
 use Rattle.math.specs.Vec.{vSub, vMin, vMax, dot, cross, normSq, norm}
 use Rattle.outline.specs.Corners.{point, same}
 use Rattle.outline.specs.Clean.{endsIn, pushed, gathered, stay, cleanPolygon}
-use Rattle.outline_ears.specs.Ears.{cross as turn, largest, scale, tolerance, inTriangle, blocks, any, blocked, ip, inx, earAt, crossAt, isEar, isFlat}
+use Rattle.outline_triangle.specs.Triangle.{cross as turn, largest, scale, tolerance, inTriangle, blocks}
+use Rattle.outline_ears.specs.Ears.{any, blocked, ip, inx, earAt, crossAt, isEar, isFlat}
 use Rattle.outline_ears.specs.Ears.{counting, find, firstEar, firstFlat}
 use Rattle.outline_triangulate.specs.Triangulate.{Clipping, without, clipped, dropped, fans, fan, fanned, byFound, pass, passes, finished, start, triangulated}
 use Rattle.outline_triangulate.specs.Triangulate.{triangulatePolygon}

@@ -4,7 +4,8 @@ use mathlib.Core.Path.{_≡_, sym, _∙_}
 use native.Mathlib.Omega.{arith}
 use Prim.Native.Nat.{_≤_, _-_}
 use lib.ListN.{take, drop}
-use Rattle.outline_ears.specs.Ears.{any, blocks, blocked}
+use Rattle.outline_triangle.specs.Triangle.{blocks}
+use Rattle.outline_ears.specs.Ears.{any, blocked}
 use Rattle.outline_ears.proofs.Laws.{any-here, any-on, any-none, blocked-is}
 use Rattle.outline_ears.proofs.blocked.Statement.{statement}
 use Rattle.outline_ears.proofs.blocked.Tie as tie

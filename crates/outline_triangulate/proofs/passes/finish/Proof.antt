@@ -5,7 +5,7 @@ use native.Mathlib.Nat.{le-refl, le-add-right}
 use native.Mathlib.Omega.{arith}
 use lib.ListN.{getD}
 use Rattle.outline.specs.Corners.{point}
-use Rattle.outline_ears.specs.Ears.{cross}
+use Rattle.outline_triangle.specs.Triangle.{cross}
 use Rattle.outline_triangulate.proofs.Steps.{triangle-cut, flat-cut, few-cut}
 use borrow.Author.Needs.{needs}
 use Rattle.outline_triangulate.proofs.passes.finish.Statement.{statement}

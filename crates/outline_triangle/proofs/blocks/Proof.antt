@@ -1,10 +1,10 @@
--- `outline_ears::blocks` meets its contract. Assumes nothing.
+-- `outline_triangle::blocks` meets its contract. Assumes nothing.
 use denote.Ref.{now}
 use borrow.Author.Tests.{not-true, not-false}
-use Rattle.outline_ears.proofs.Laws.{inTriangle-at, same-at, blocks-outside, blocks-ip, blocks-ic, blocks-inx, blocks-a, blocks-b, blocks-c, blocks-all}
+use Rattle.outline_triangle.proofs.Laws.{inTriangle-at, same-at, blocks-outside, blocks-ip, blocks-ic, blocks-inx, blocks-a, blocks-b, blocks-c, blocks-all}
 use borrow.Author.Needs.{needs}
-use Rattle.outline_ears.proofs.blocks.Statement.{statement}
-use Rattle.outline_ears.proofs.blocks.Tie as tie
+use Rattle.outline_triangle.proofs.blocks.Statement.{statement}
+use Rattle.outline_triangle.proofs.blocks.Tie as tie
 
 point-of-requires : tie.Need-point-of-requires
 point-of-requires c κs = search needs

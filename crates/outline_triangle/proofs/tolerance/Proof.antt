@@ -1,4 +1,4 @@
--- `outline_ears::tolerance` meets its contract. Assumes nothing.
+-- `outline_triangle::tolerance` meets its contract. Assumes nothing.
 use denote.Ref.{now}
 use Prim.Native.Nat.{_+_, _≤_, _-_}
 use mathlib.Core.Path.{_≡_, refl, sym, ap, _∙_}
@@ -6,10 +6,10 @@ use native.Mathlib.Omega.{arith}
 use lib.ListN.{length, drop}
 use lib.Ieee.{Float, binary64, ofBits, mul}
 use Rattle.ieee.specs.Number.{maximum}
-use Rattle.outline_ears.specs.Ears.{largest, scale, tolerance}
-use Rattle.outline_ears.proofs.Laws.{largest-next, largest-end}
-use Rattle.outline_ears.proofs.tolerance.Statement.{statement}
-use Rattle.outline_ears.proofs.tolerance.Tie as tie
+use Rattle.outline_triangle.specs.Triangle.{largest, scale, tolerance}
+use Rattle.outline_triangle.proofs.Laws.{largest-next, largest-end}
+use Rattle.outline_triangle.proofs.tolerance.Statement.{statement}
+use Rattle.outline_triangle.proofs.tolerance.Tie as tie
 
 abbrev Inv-loop : tie.InvT-loop
 Inv-loop v m₀ i₀ m i = (i ≤ length v) × (largest m (drop i v) ≡ largest m₀ v)

@@ -1,8 +1,8 @@
--- `outline_ears::in_triangle` meets its contract. Assumes nothing.
-use Rattle.outline_ears.proofs.Laws.{inTriangle-third, inTriangle-beyond}
+-- `outline_triangle::in_triangle` meets its contract. Assumes nothing.
+use Rattle.outline_triangle.proofs.Laws.{inTriangle-third, inTriangle-beyond}
 use borrow.Author.Needs.{needs}
-use Rattle.outline_ears.proofs.in_triangle.Statement.{statement}
-use Rattle.outline_ears.proofs.in_triangle.Tie as tie
+use Rattle.outline_triangle.proofs.in_triangle.Statement.{statement}
+use Rattle.outline_triangle.proofs.in_triangle.Tie as tie
 
 cross-requires : tie.Need-cross-requires
 cross-requires c κs = search needs
