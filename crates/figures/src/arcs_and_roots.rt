@@ -7,7 +7,7 @@ use ieee::TAU;
 
 fn arc(name: &[u8], span: f64) {
     let mut line = [0u8; 160];
-    let n = put_arc(&mut line, 0, name, shape::arc_segments(32, span));
+    let n = put_arc(&mut line, 0, name, shape_arc::arc_segments(32, span));
     written::write(&line, n);
 }
 

@@ -1,3 +1,2 @@
 -- What the proofs of `shape` share.
-pub mod Spans
 pub mod Tags

@@ -1,7 +1,7 @@
 -- What is known of a drawing that refusals 3, 4, 1 and 2 let pass. Laws of the definitions in Drawing. Assumes nothing.
 use Prim.Native.Nat.{ℕ, _/_, _%_, _<_, _≤_}
-use mathlib.Core.Path.{_≡_, refl, _∙_}
-use mathlib.Core.Bool.{Bool, true, false, not, _&&_, cond}
+use mathlib.Core.Path.{_≡_, refl, sym, _∙_, ap}
+use mathlib.Core.Bool.{Bool, true, false, true≢false, not, _&&_, cond}
 use mathlib.Core.List.{List}
 use native.Mathlib.Omega.{arith}
 use lib.ListN.{length, getD, take}
@@ -11,6 +11,7 @@ use lib.Ieee.Scale.{finite}
 use borrow.Author.Tests.{ltb-false, eqb-true, not-false}
 use Rattle.slice_law.specs.Bools.{or-left, or-right, and-left, and-right}
 use Rattle.refusal.specs.declared.Refusal.the-variants.{Accepted, NotFinite, AngleTooLarge, TooManySegments, BadList}
+use Rattle.refusal.specs.Accepted.{isAccepted}
 use Rattle.transform.specs.declared.TransformOp.{TransformOp}
 use Rattle.transform.specs.Ops.{mostOps}
 use Rattle.transform.specs.Checks.{opsFinite, opsAnglesWithin}
@@ -46,10 +47,10 @@ record Passed (a b c d : Bool) : Type 0 where
   two : d ≡ false
 
 passed : (a b c d : Bool) → cond a TooManySegments (cond b BadList (cond c NotFinite (cond d AngleTooLarge Accepted))) ≡ Accepted → Passed a b c d
-passed true b c d e = let no : TooManySegments ≡ Accepted = e in record { three = cc; four = cc; one = cc; two = cc }
-passed false true c d e = let no : BadList ≡ Accepted = e in record { three = refl; four = cc; one = cc; two = cc }
-passed false false true d e = let no : NotFinite ≡ Accepted = e in record { three = refl; four = refl; one = cc; two = cc }
-passed false false false true e = let no : AngleTooLarge ≡ Accepted = e in record { three = refl; four = refl; one = refl; two = cc }
+passed true b c d e = absurd (true≢false (sym (ap isAccepted e)))
+passed false true c d e = absurd (true≢false (sym (ap isAccepted e)))
+passed false false true d e = absurd (true≢false (sym (ap isAccepted e)))
+passed false false false true e = absurd (true≢false (sym (ap isAccepted e)))
 passed false false false false e = record { three = refl; four = refl; one = refl; two = refl }
 
 -- no refusal 3, 4, 1 or 2: what holds of the drawing

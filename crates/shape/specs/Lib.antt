@@ -1,6 +1,4 @@
 -- What the contracts of `shape` cite, and laws of it.
-pub mod Arc
-pub mod ArcLaws
 pub mod Rotated
 pub mod Drawing
 pub mod DrawingLaws

@@ -1,12 +1,8 @@
 // What a user draws: the shape, its coordinate system and the resolution. The specs say which drawings are refused; `shape_check` checks them.
-mod arc;
 mod lists;
 mod rotated;
 mod systems;
 
-pub use arc::arc_segments;
-pub use arc::is_full;
-pub use arc::larger;
 pub use lists::items_of;
 use math::Vec3;
 pub use rotated::is_rot_poly;

@@ -8,7 +8,7 @@ use Rattle.math.specs.Vec.{vMin, vMax}
 use Rattle.weld.specs.Rep.{Held, Runs}
 use Rattle.weld.specs.Runs.{runs-as}
 use Rattle.surface_spec.specs.declared.Chart.the-variants.{Cartesian, Cylindrical}
-use Rattle.shape.specs.Arc.{arcSegments, isFull}
+use Rattle.shape_arc.specs.Arc.{arcSegments, isFull}
 use Rattle.solid_spec.specs.Coords.{cylindricalToCartesian}
 use Rattle.solid_spec.specs.Boxes.{asIs, turnedTo, cylindricalBox, boxShape}
 use Rattle.surface_spec.specs.Surface.{mapped}

@@ -29,9 +29,9 @@ pub fn weld_box_shape(
     if !cylindrical {
         return flat::weld_flat_box(vertices, triangles, work, w, lo, hi);
     }
-    let full = shape::is_full(hi.y - lo.y);
+    let full = shape_arc::is_full(hi.y - lo.y);
     let high = surface_box::turned_to(full, lo, hi);
-    let n = shape::arc_segments(segments, high.y - lo.y);
+    let n = shape_arc::arc_segments(segments, high.y - lo.y);
     param_box::weld_param_box(
         vertices,
         triangles,

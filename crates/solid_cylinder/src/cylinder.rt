@@ -27,7 +27,7 @@ fn weld_tube(
         (held w (now (vertices .entry)) (now (triangles .entry)) (now (work .entry)))
         (held k (now (vertices .exit)) (now (triangles .exit)) (now (work .exit))) ⌝ }
 {
-    let np = shape::larger(segments, 3);
+    let np = shape_arc::larger(segments, 3);
     let inner = ieee::max(r0, 0.0);
     let e1 = surface_coords::frame1(d);
     let e2 = surface_coords::frame2(d);

@@ -22,11 +22,11 @@ use Rattle.outline.specs.Area.{signedArea}
 use Rattle.outline.specs.Ccw.{swapped, reversed, ccwPolygon, prepared}
 use Rattle.outline.proofs.Copies.{length-reversed, length-swapped}
 use Rattle.surface.specs.Within.{ExtrudedWithin, RotatedWithin}
-use Rattle.shape.specs.ArcLaws.{arcSegments-some, arcSegments-few}
+use Rattle.shape_arc.specs.ArcLaws.{arcSegments-some, arcSegments-few}
 use Rattle.weld.specs.Rep.{Held, Ready, Runs}
 use Rattle.weld.specs.Runs.{runs-none, runs-then, runs-as}
 use Rattle.surface_spec.specs.declared.Surface.the-variants.{Extruded, Rotated}
-use Rattle.shape.specs.Arc.{arcSegments, isFull}
+use Rattle.shape_arc.specs.Arc.{arcSegments, isFull}
 use Rattle.surface_spec.specs.declared.Surface.{Surface}
 use Rattle.solid_spec.specs.Grid.{Soup, grid}
 use Rattle.solid_spec.specs.Outline.{planePoint, caps, cornerAt, extrudedSides, extrudedFrom, angle, spun, turnedAt, turnedSides, turnedFrom, rotatedFrom}

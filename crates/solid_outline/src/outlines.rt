@@ -176,8 +176,8 @@ fn weld_rotated_from(
         return w;
     }
     let span = stop - start;
-    let full = shape::is_full(ieee::abs(span));
-    let n = shape::arc_segments(segments, turn_span(full, span));
+    let full = shape_arc::is_full(ieee::abs(span));
+    let n = shape_arc::arc_segments(segments, turn_span(full, span));
     let s = Surface::Rotated {
         a,
         q,

@@ -11,14 +11,14 @@ use Rattle.math.specs.declared.Vec3.{Vec3}
 use Rattle.math.specs.Vec.{vMin, vMax}
 use Rattle.mesh_balance_spec.specs.Soup.{Balanced, mapTri}
 use Rattle.mesh_spec.specs.Mesh.{plusZeroV, everyFinite}
-use Rattle.shape.specs.Arc.{arcSegments, isFull}
+use Rattle.shape_arc.specs.Arc.{arcSegments, isFull}
 use Rattle.solid_spec.specs.Coords.{cylindricalToCartesian}
 use Rattle.solid_spec.specs.Boxes.{asIs, turnedTo, cylindricalBox, boxShape, boxSoup}
 use Rattle.solid_spec.proofs.Every.{Sound, sound-of}
 use Rattle.solid_spec.proofs.Closes.{Closes}
 use Rattle.solid_spec.proofs.Coord.{AxisWithin}
 use Rattle.solid_spec.proofs.Unequal.{ends-unequal, minimum-fits}
-use Rattle.shape.specs.ArcLaws.{arcSegments-some, arcSegments-few}
+use Rattle.shape_arc.specs.ArcLaws.{arcSegments-some, arcSegments-few}
 use Rattle.solid_spec.proofs.ParamBoxBalanced.{boxed, six-faces, four-faces}
 use Rattle.solid_spec.proofs.Maps.{asIs-respects, asIs-shows, cylindrical-respects, cylindrical-shows}
 use Rattle.solid_spec.specs.Fits.{Bounded}

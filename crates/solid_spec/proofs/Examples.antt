@@ -17,7 +17,7 @@ use Rattle.solid_spec.specs.Grid.{Soup, grid}
 use Rattle.solid_spec.specs.ParamBox.{coord, face, faces, paramBox}
 use Rattle.solid_spec.specs.Coords.{toCartesian}
 use Rattle.solid_spec.specs.Sphere.{latitude, longitude, onSphere, spherePoint, sphere, sphereSoup}
-use Rattle.shape.specs.Arc.{countedSpan, arcShare, arcSegments, fullSpan, isFull}
+use Rattle.shape_arc.specs.Arc.{countedSpan, arcShare, arcSegments, fullSpan, isFull}
 use Rattle.solid_spec.specs.Boxes.{turnedTo, cylindricalBox, boxShape, boxSoup}
 use Rattle.solid_spec.proofs.SphereBalanced.{sphereSoup-balanced}
 use Rattle.solid_spec.proofs.BoxBalanced.{boxSoup-balanced}

@@ -17,7 +17,7 @@ use Rattle.mesh_balance_spec.specs.Soup.{Tri, Balanced, balanced-map}
 use Rattle.mesh_balance_spec.specs.Grid.{Bounds}
 use Rattle.mesh_balance_spec.specs.Prism.{cycle}
 use Rattle.mesh_spec.specs.Mesh.{plusZeroV}
-use Rattle.shape.specs.Arc.{arcSegments, isFull}
+use Rattle.shape_arc.specs.Arc.{arcSegments, isFull}
 use Rattle.solid_spec.specs.Grid.{Soup, grid}
 use Rattle.solid_spec.specs.Outline.{cornerAt, caps, extrudedSides, extrudedFrom, angle, spun, turnedAt, turnedSides, turnedFrom, rotatedFrom, height}
 use Rattle.solid_spec.proofs.Closes.{Closes, nothing-closes}

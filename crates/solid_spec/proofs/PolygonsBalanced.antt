@@ -19,7 +19,7 @@ use Rattle.outline.proofs.Copies.{length-reversed}
 use Rattle.outline_triangulate.specs.Triangulate.{triangulatePolygon}
 use Rattle.outline_caps_law.specs.Caps as Cap
 use Rattle.mesh_spec.specs.Mesh.{plusZeroV}
-use Rattle.shape.specs.Arc.{isFull}
+use Rattle.shape_arc.specs.Arc.{isFull}
 use Rattle.solid_spec.specs.Outline.{extrudedFrom, rotatedFrom}
 use Rattle.solid_spec.specs.Polygons.{capTriangles, extrudedPolygon, lowEnd, highEnd, linPolySoup, radialAxis, rotpoly, rotPolySoup, capNumbers}
 use Rattle.solid_spec.specs.Polygons.{radialCorners}

@@ -8,7 +8,7 @@ use Rattle.ieee.specs.Number.{tau}
 use Rattle.math.specs.declared.Vec3.{Vec3}
 use Rattle.math.specs.Vec.{new, vMin, vMax}
 use Rattle.mesh_spec.specs.Slices.{vertexAt}
-use Rattle.shape.specs.Arc.{arcSegments, isFull}
+use Rattle.shape_arc.specs.Arc.{arcSegments, isFull}
 use Rattle.solid_spec.specs.Grid.{Soup}
 use Rattle.solid_spec.specs.ParamBox.{along, paramBox}
 use Rattle.solid_spec.specs.Coords.{cylindricalToCartesian}

@@ -17,7 +17,7 @@ use Rattle.outline.specs.Corners.{point}
 use Rattle.outline.specs.Axes.{planeAxes}
 use Rattle.mesh_balance_spec.specs.Soup.{Tri, mapTri, flip}
 use Rattle.mesh_balance_spec.specs.Grid.{quad, upto}
-use Rattle.shape.specs.Arc.{arcSegments, isFull}
+use Rattle.shape_arc.specs.Arc.{arcSegments, isFull}
 use Rattle.solid_spec.specs.Grid.{Soup}
 
 -- `plane_point`: `Vec3::ZERO` after `p[u] = a`, `p[v] = b`, `p[n] = h`

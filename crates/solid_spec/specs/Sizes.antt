@@ -21,7 +21,7 @@ use Rattle.outline_ears.specs.Ears.{earAt, crossAt, isEar, isFlat, counting, fi
 use Rattle.outline_triangulate.specs.Triangulate.{without, clipped, dropped, fans, fan, fanned, byFound, pass, passes, finished, start}
 use Rattle.outline_triangulate.specs.Triangulate.{triangulated, triangulatePolygon}
 use Rattle.mesh_spec.specs.Parts.{Soup}
-use Rattle.shape.specs.Arc.{countedSpan, arcShare, arcSegments, fullSpan, isFull}
+use Rattle.shape_arc.specs.Arc.{countedSpan, arcShare, arcSegments, fullSpan, isFull}
 use Rattle.shape.specs.declared.Shape.{Shape}
 use Rattle.shape.specs.declared.Shape.the-variants.{Box, MultiBox, Sphere, SphericalShell, Cylinder, CylindricalShell, Polygon, LinPoly, RotPoly, Wire}
 use Rattle.solid_spec.specs.Grid.{grid}

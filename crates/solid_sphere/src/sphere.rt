@@ -70,7 +70,7 @@ fn weld_skin(
         (held w (now (vertices .entry)) (now (triangles .entry)) (now (work .entry)))
         (held k (now (vertices .exit)) (now (triangles .exit)) (now (work .exit))) ⌝ }
 {
-    if shape::larger(nt, np) <= 64 {
+    if shape_arc::larger(nt, np) <= 64 {
         let mut rows = [0.0; 130];
         let mut cols = [0.0; 130];
         let mut numbers = [0usize; 65];
@@ -128,8 +128,8 @@ pub fn weld_sphere(
     if r <= 0.0 {
         return w;
     }
-    let nt = shape::larger(rings, 2);
-    let np = shape::larger(segments, 3);
+    let nt = shape_arc::larger(rings, 2);
+    let np = shape_arc::larger(segments, 3);
     weld_skin(vertices, triangles, work, w, c, r, nt, np, flip)
 }
 

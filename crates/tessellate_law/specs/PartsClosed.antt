@@ -24,7 +24,7 @@ use Rattle.mesh_spec.specs.Mesh.{fromSoup, everyFinite}
 use Rattle.mesh_spec.specs.Closed.{Closed}
 use Rattle.mesh_spec.specs.Welded.{fromSoup-closed}
 use Rattle.solid_spec.specs.Grid.{Soup}
-use Rattle.shape.specs.Arc.{isFull}
+use Rattle.shape_arc.specs.Arc.{isFull}
 use Rattle.mesh_spec.specs.Slices.{vertexAt}
 use Rattle.solid_spec.specs.Polygons.{capTriangles, radialCorners, capNumbers}
 use Rattle.solid_spec.proofs.Points.{finite-says}

@@ -26,7 +26,7 @@ use Rattle.solid_spec.specs.Grid.{grid}
 use Rattle.solid_spec.specs.ParamBox.{coord, face, faces, paramBox}
 use Rattle.solid_spec.specs.Sphere.{sphere, sphereSoup}
 use Rattle.transform.specs.Ops.{noOps}
-use Rattle.shape.specs.Arc.{countedSpan, arcShare, arcSegments}
+use Rattle.shape_arc.specs.Arc.{countedSpan, arcShare, arcSegments}
 use Rattle.solid_spec.specs.Boxes.{boxShape}
 use Rattle.shape.specs.declared.Shape.{Shape}
 use Rattle.shape.specs.declared.Shape.the-variants.{Box, Sphere}

@@ -14,7 +14,7 @@ use Rattle.refusal.specs.declared.Refusal.the-variants.{Accepted}
 use Rattle.outline.specs.Clean.{cleanPolygon}
 use Rattle.outline.specs.Ccw.{ccwPolygon}
 use Rattle.mesh_spec.specs.Mesh.{Mesh}
-use Rattle.shape.specs.Arc.{isFull}
+use Rattle.shape_arc.specs.Arc.{isFull}
 use Rattle.mesh_spec.specs.Slices.{vertexAt}
 use Rattle.solid_spec.specs.Cylinder.{innerRadius, outerRadius}
 use Rattle.solid_spec.specs.Polygons.{capTriangles, lowEnd, highEnd, radialCorners}

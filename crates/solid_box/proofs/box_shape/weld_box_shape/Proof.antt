@@ -1,6 +1,6 @@
 -- `solid_box::box_shape::weld_box_shape` meets its contract. Assumes nothing.
 use borrow.Author.Tests.{not-true, not-false}
-use Rattle.shape.specs.ArcLaws.{arc-few}
+use Rattle.shape_arc.specs.ArcLaws.{arc-few}
 use Rattle.solid_box.proofs.BoxRuns.{cylindrical-runs, shape-turned, shape-straight}
 use borrow.Author.Needs.{needs}
 use Rattle.solid_box.proofs.box_shape.weld_box_shape.Statement.{statement}

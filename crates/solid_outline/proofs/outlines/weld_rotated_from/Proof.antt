@@ -2,9 +2,9 @@
 use borrow.Author.Needs.{needs}
 use native.Mathlib.Omega.{arith}
 use mathlib.Core.Path.{ap, _∙_}
-use Rattle.shape.specs.Arc.{arcSegments, isFull}
+use Rattle.shape_arc.specs.Arc.{arcSegments, isFull}
 use Rattle.surface.proofs.Tables.{filled-less}
-use Rattle.shape.specs.ArcLaws.{arc-few, arc-some}
+use Rattle.shape_arc.specs.ArcLaws.{arc-few, arc-some}
 use Rattle.solid_outline.proofs.OutlineRuns.{rotated-within, rotated-none, rotated-runs}
 use Rattle.solid_outline.proofs.outlines.weld_rotated_from.Statement.{statement}
 use Rattle.solid_outline.proofs.outlines.weld_rotated_from.Tie as tie

@@ -8,7 +8,7 @@ use lib.Ieee.{Float, nan, mul, div, neg, ofInt, ofBits, isNan, lt, le}
 use Rattle.ieee.specs.Number.{plusZero, minimum, absolute, ceiling, pi, tau}
 use Rattle.ieee.specs.Sweep.{sweep, Within, sweep-within, arc-within}
 use Rattle.ieee.specs.Ceil.{ceiling-le}
-use Rattle.shape.specs.Arc.{countedSpan, arcShare, arcSegments}
+use Rattle.shape_arc.specs.Arc.{countedSpan, arcShare, arcSegments}
 
 pub arcSegments-some : (segments : ℕ) (span : Float) → 1 ≤ arcSegments segments span
 unfolding arcSegments

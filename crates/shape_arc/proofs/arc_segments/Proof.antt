@@ -1,11 +1,11 @@
--- `shape::arc::arc_segments` meets its contract. Assumes nothing.
+-- `shape_arc::arc_segments` meets its contract. Assumes nothing.
 use mathlib.Core.Path.{_∙_}
 use Prim.Native.Nat.{max}
 use Rattle.ieee.specs.Number.{ceiling}
-use Rattle.shape.specs.Arc.{arcSegments}
+use Rattle.shape_arc.specs.Arc.{arcSegments}
 use borrow.Author.Needs.{needs}
-use Rattle.shape.proofs.arc.arc_segments.Statement.{statement}
-use Rattle.shape.proofs.arc.arc_segments.Tie as tie
+use Rattle.shape_arc.proofs.arc_segments.Statement.{statement}
+use Rattle.shape_arc.proofs.arc_segments.Tie as tie
 
 arc-share-requires : tie.Need-arc-share-requires
 arc-share-requires c κs = search needs

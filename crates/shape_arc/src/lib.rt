@@ -1,7 +1,7 @@
 // TessellationOptions::arc_segments of src/tessellate.rs, and its test for a full turn.
 ghost use mathlib.Core.Path.{_≡_};
 ghost use Prim.Native.Nat.{_≤_, max};
-ghost use Rattle.shape.specs.Arc.{countedSpan, arcShare, arcSegments, isFull};
+ghost use Rattle.shape_arc.specs.Arc.{countedSpan, arcShare, arcSegments, isFull};
 use ieee::TAU;
 
 // usize::max.

@@ -1,12 +1,12 @@
--- `shape::arc::counted_span` meets its contract. Assumes nothing.
+-- `shape_arc::counted_span` meets its contract. Assumes nothing.
 use Rattle.ieee.specs.Number.{minimum, tau}
 use lib.Ieee.{Float}
 use mathlib.Core.Path.{_≡_, _∙_, ap}
-use Rattle.shape.proofs.Spans.{counted, uncounted}
+use Rattle.shape_arc.proofs.Spans.{counted, uncounted}
 use lib.Ieee.{ofBits}
 use borrow.Author.Needs.{needs}
-use Rattle.shape.proofs.arc.counted_span.Statement.{statement}
-use Rattle.shape.proofs.arc.counted_span.Tie as tie
+use Rattle.shape_arc.proofs.counted_span.Statement.{statement}
+use Rattle.shape_arc.proofs.counted_span.Tie as tie
 
 abs-requires : tie.Need-abs-requires
 abs-requires c κs = search needs

@@ -1,13 +1,13 @@
--- `shape::arc::arc_share` meets its contract. Assumes nothing.
-use Rattle.shape.specs.Arc.{arcShare}
+-- `shape_arc::arc_share` meets its contract. Assumes nothing.
+use Rattle.shape_arc.specs.Arc.{arcShare}
 use lib.IntN.{pos}
 use lib.Ieee.{binary64, div, mul, ofInt}
 use Rattle.ieee.specs.Number.{tau}
 use Rattle.ieee.specs.Ends.{ofNat-in}
 use native.Mathlib.Omega.{arith}
 use borrow.Author.Needs.{needs}
-use Rattle.shape.proofs.arc.arc_share.Statement.{statement}
-use Rattle.shape.proofs.arc.arc_share.Tie as tie
+use Rattle.shape_arc.proofs.arc_share.Statement.{statement}
+use Rattle.shape_arc.proofs.arc_share.Tie as tie
 
 larger-requires : tie.Need-larger-requires
 larger-requires c κs = search needs

@@ -4,7 +4,7 @@ use mathlib.Core.Bool.{true, false, true≢false}
 use lib.Ieee.{Float, nan, inf, fin, eq, isNan}
 use Rattle.ieee.specs.Number.{plusZero, minimum, absolute, tau}
 use Rattle.ieee.specs.Same.{eq-refl, T-true}
-use Rattle.shape.specs.Arc.{countedSpan}
+use Rattle.shape_arc.specs.Arc.{countedSpan}
 
 pub counted : (x r : Float) → eq x x ≡ true → r ≡ minimum (absolute x) tau → r ≡ countedSpan x
 unfolding countedSpan isNan eq

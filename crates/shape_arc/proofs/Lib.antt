@@ -1,0 +1,2 @@
+-- What the proofs of `shape_arc` share.
+pub mod Spans

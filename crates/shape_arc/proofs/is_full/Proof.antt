@@ -1,0 +1,12 @@
+-- `shape_arc::is_full` meets its contract. Assumes nothing.
+use mathlib.Core.Path.{refl}
+use Rattle.shape_arc.specs.Arc.{isFull, fullSpan}
+use Rattle.shape_arc.proofs.is_full.Statement.{statement}
+use Rattle.shape_arc.proofs.is_full.Tie as tie
+
+returns : tie.Need-returns
+unfolding isFull fullSpan
+returns c = refl
+
+pub is-full-spec : {M : Type 1} → statement M
+is-full-spec = tie.close (tie.spec returns)
