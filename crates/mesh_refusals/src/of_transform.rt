@@ -22,7 +22,7 @@ fn move_refusal(
     requires { ⌜ Tested (now vertices) n small ⌝ }
     ensures { λ r. ⌜ r ≡ moveRefusal ops «op_count» degrees (points (take (3 * n) (now (vertices .entry)))) ⌝ }
 {
-    if !transform_check::ops_angles_within(ops, op_count, degrees) {
+    if !transform_angles::ops_angles_within(ops, op_count, degrees) {
         return Refusal::AngleTooLarge;
     }
     if op_count == 0 {

@@ -12,7 +12,7 @@ use trig::Radians;
 fn point_within(cyl: bool, p: Vec3) -> bool
     ensures { λ r. ⌜ r ≡ Drawing.pointWithin cyl p ⌝ }
 {
-    !cyl | transform_check::within_1000(Radians(p.y))
+    !cyl | transform_angles::within_1000(Radians(p.y))
 }
 
 // Whether the angles of the shape's own points, and its start and stop angle, are within 1,000.
@@ -30,8 +30,8 @@ fn shape_within(cyl: bool, shape: Shape) -> bool
             start_angle,
             stop_angle,
             ..
-        } => transform_check::within_1000(Radians(start_angle))
-            & transform_check::within_1000(Radians(stop_angle)),
+        } => transform_angles::within_1000(Radians(start_angle))
+            & transform_angles::within_1000(Radians(stop_angle)),
         _ => true,
     }
 }
@@ -42,7 +42,7 @@ fn points_within(list: &[f64]) -> bool
 {
     let mut i = 0;
     while 3 <= list.len() - i {
-        let good = transform_check::within_1000(Radians(list[i + 1]));
+        let good = transform_angles::within_1000(Radians(list[i + 1]));
         if !good {
             return false;
         }
@@ -74,6 +74,6 @@ pub fn angles_bad(
 {
     let good = shape_within(cyl, shape)
         & list_within(cyl, shape::items_of(shape), list)
-        & transform_check::ops_angles_within(ops, op_count, degrees);
+        & transform_angles::ops_angles_within(ops, op_count, degrees);
     !good
 }

@@ -1,10 +1,10 @@
--- `transform_check::op_angle_within` meets its contract. Assumes nothing.
+-- `transform_angles::op_angle_within` meets its contract. Assumes nothing.
 use borrow.Author.Needs.{needs}
 use mathlib.Core.Path.{sym, ap, _∙_}
 use Rattle.transform.specs.Angle.{within1000}
 use Rattle.transform.specs.Checks.{opAngleWithin}
-use Rattle.transform_check.proofs.op_angle_within.Statement.{statement}
-use Rattle.transform_check.proofs.op_angle_within.Tie as tie
+use Rattle.transform_angles.proofs.op_angle_within.Statement.{statement}
+use Rattle.transform_angles.proofs.op_angle_within.Tie as tie
 
 enum-told : tie.Need-enum-told
 enum-told c = search needs

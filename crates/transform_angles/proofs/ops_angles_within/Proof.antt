@@ -1,4 +1,4 @@
--- `transform_check::ops_angles_within` meets its contract. The loop's invariant: `good` says whether the angles of the first `i` operations are within 1000.
+-- `transform_angles::ops_angles_within` meets its contract. The loop's invariant: `good` says whether the angles of the first `i` operations are within 1000.
 -- The measure is how many are left. Assumes nothing.
 use mathlib.Core.Path.{_≡_, refl, ap, _∙_}
 use Prim.Native.Nat.{_≤_, _-_}
@@ -8,8 +8,8 @@ use lib.ListN.{length, take}
 use Rattle.slice.specs.Every.{every}
 use Rattle.transform.specs.Checks.{opAngleWithin, opsAnglesWithin}
 use Rattle.transform.specs.OpsLaws.{take-most, every-one-more}
-use Rattle.transform_check.proofs.ops_angles_within.Statement.{statement}
-use Rattle.transform_check.proofs.ops_angles_within.Tie as tie
+use Rattle.transform_angles.proofs.ops_angles_within.Statement.{statement}
+use Rattle.transform_angles.proofs.ops_angles_within.Tie as tie
 
 abbrev Inv-loop : tie.InvT-loop
 Inv-loop count degrees ops n good₀ i₀ good i = (i ≤ n) × (good ≡ opsAnglesWithin degrees (take i ops))

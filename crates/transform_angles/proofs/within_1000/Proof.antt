@@ -1,11 +1,11 @@
--- `transform_check::within_1000` meets its contract. Assumes nothing.
+-- `transform_angles::within_1000` meets its contract. Assumes nothing.
 use mathlib.Core.Path.{ap}
 use lib.IntN.{pos}
 use lib.Ieee.{Float, binary64, le, ofBits, ofInt}
 use borrow.Author.Needs.{needs}
 use Rattle.transform.specs.Angle.{within1000}
-use Rattle.transform_check.proofs.within_1000.Statement.{statement}
-use Rattle.transform_check.proofs.within_1000.Tie as tie
+use Rattle.transform_angles.proofs.within_1000.Statement.{statement}
+use Rattle.transform_angles.proofs.within_1000.Tie as tie
 
 abs-requires : tie.Need-abs-requires
 abs-requires c κs = search needs
