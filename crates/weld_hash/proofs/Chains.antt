@@ -20,7 +20,8 @@ use Rattle.weld_hash.specs.declared.Found.the-variants.{At, Missing}
 use Rattle.mesh_spec.specs.Slices.{vertexAt}
 use Rattle.weld_vertex.specs.Points.{Clean}
 use Rattle.mesh_triples.specs.Triples.{putVertex}
-use Rattle.weld_hash.specs.Hash.{bucketOf, latest, Distinct, Agrees, Chained, Indexed, linkedIn, FirstAt, Sought, Placing}
+use Rattle.weld_bucket.specs.Bucket.{bucketOf}
+use Rattle.weld_hash.specs.Hash.{latest, Distinct, Agrees, Chained, Indexed, linkedIn, FirstAt, Sought, Placing}
 use Rattle.weld_vertex.proofs.Clean.{same-data}
 use Rattle.weld_vertex.proofs.Places.{put-at, put-before, apart}
 

@@ -1,9 +1,10 @@
 // The hash chains in the work slice. They find the vertex that equals a point, as the `HashMap` of from_soup does.
 ghost use mathlib.Core.Path.{_≡_};
-ghost use Prim.Native.Nat.{_+_, _*_, _<_, _≤_, _^_};
+ghost use Prim.Native.Nat.{_*_, _<_, _≤_, _^_};
 ghost use lib.ListN.{length};
 ghost use Rattle.weld_vertex.specs.Points.{Clean};
-ghost use Rattle.weld_hash.specs.Hash.{spreadOf, middleOf, bucketOf, Distinct, Chained, Indexed, linkedIn, Sought, Placing};
+ghost use Rattle.weld_bucket.specs.Bucket.{bucketOf};
+ghost use Rattle.weld_hash.specs.Hash.{Distinct, Chained, Indexed, linkedIn, Sought, Placing};
 use math::Vec3;
 
 // What a look-up finds: the number of a vertex, or none.
@@ -17,35 +18,6 @@ fn wide(x: u32) -> usize
     ensures { λ r. ⌜ r ≡ x ⌝ }
 {
     x as usize
-}
-
-// A number's halves, multiplied apart, so that no product wraps.
-fn spread(bits: u64, low: u64, high: u64) -> u64
-    requires { ⌜ low + high < 2 ^ 32 ⌝ }
-    ensures { λ r. ⌜ (r ≡ spreadOf bits low high) × (r ≤ (low + high) * 4294967295) ⌝ }
-{
-    bits % 4294967296 * low + bits / 4294967296 * high
-}
-
-// The middle bits of the product of a number's halves.
-fn middle(t: u64) -> u64
-    requires { ⌜ t < 2 ^ 63 ⌝ }
-    ensures { λ r. ⌜ (r ≡ middleOf t) × (r < 2 ^ 32) ⌝ }
-{
-    t % 4294967296 * (t / 4294967296 + 1905421161) / 65536 % 4294967296
-}
-
-// The bucket of a point. Coordinates that differ in their last bits only have far buckets too: each bit reaches every bit.
-// Coordinates can be chosen to collide: the chains are then long, and the number that is found is the same.
-pub fn bucket_of(p: Vec3, places: usize) -> usize
-    requires { ⌜ (places < 2 ^ 32) × Clean p ⌝ }
-    ensures { λ r. ⌜ (r ≡ bucketOf places p) × (0 < places → r < places) ⌝ }
-{
-    let a = spread(f64::to_bits(p.x), 435250745, 462664305);
-    let b = spread(f64::to_bits(p.y), 475705909, 453967447);
-    let c = spread(f64::to_bits(p.z), 534814063, 531086897);
-    let mixed = middle(spread(a + b + c, 1721092421, 1));
-    (mixed as usize) * places / 4294967296
 }
 
 // The first of the vertices from `base` below `count` that equals p. Vertices below `base` are of earlier parts.
@@ -94,7 +66,7 @@ pub fn index(vertices: &[f64], work: &mut [u32], places: usize, base: usize, cou
             work,
             places,
             m,
-            bucket_of(mesh_triples::vertex(vertices, m), places),
+            weld_bucket::bucket_of(mesh_triples::vertex(vertices, m), places),
         );
         m += 1;
     }

@@ -20,7 +20,8 @@ use Rattle.weld.specs.declared.Welder.{Welder}
 use Rattle.weld.specs.declared.Foreseen.{Foreseen}
 use Rattle.weld_vertex.specs.Points.{Clean}
 use Rattle.mesh_triples.specs.Triples.{putVertex}
-use Rattle.weld_hash.specs.Hash.{bucketOf, Chained, linkedIn, FirstAt, Sought}
+use Rattle.weld_bucket.specs.Bucket.{bucketOf}
+use Rattle.weld_hash.specs.Hash.{Chained, linkedIn, FirstAt, Sought}
 use Rattle.weld_order.specs.Rows.{among}
 use Rattle.weld.specs.Rep.{Held, held, InRow, indexed, Linked, Holds, Over, Rep}
 use Rattle.weld.specs.States.{shut, more, rowSeen, settled, Foresees}

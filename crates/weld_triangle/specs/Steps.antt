@@ -8,7 +8,8 @@ use lib.Ieee.{Float}
 use Rattle.math.specs.declared.Vec3.{Vec3}
 use Rattle.mesh_balance_spec.specs.Soup.{Tri}
 use Rattle.mesh_spec.specs.Mesh.{Mesh, firstSight, withPoint, distinct}
-use Rattle.weld_hash.specs.Hash.{bucketOf, FirstAt}
+use Rattle.weld_bucket.specs.Bucket.{bucketOf}
+use Rattle.weld_hash.specs.Hash.{FirstAt}
 use Rattle.weld.specs.declared.Welder.{Welder}
 use Rattle.slice.specs.Every.{placesOf}
 use Rattle.weld.specs.Rep.{Held, held, rowOf, Linked, Ready, Rep}

@@ -3,7 +3,7 @@ ghost use mathlib.Core.Path.{_≡_};
 ghost use mathlib.Core.Bool.{true, false};
 ghost use Prim.Native.Nat.{_<_, _^_};
 ghost use Rattle.weld_vertex.specs.Points.{Clean};
-ghost use Rattle.weld_hash.specs.Hash.{bucketOf};
+ghost use Rattle.weld_bucket.specs.Bucket.{bucketOf};
 ghost use Rattle.weld.specs.Rep.{Linked};
 ghost use Rattle.weld.specs.States.{settled};
 ghost use Rattle.weld_triangle.specs.Steps.{BucketOrNone, PointRuns};
@@ -41,7 +41,7 @@ fn bucket_at(p: Vec3, places: usize, bucket: usize) -> usize
     if bucket < places {
         return bucket;
     }
-    weld_hash::bucket_of(p, places)
+    weld_bucket::bucket_of(p, places)
 }
 
 // The same as `search`, where all vertices of this part are in the chains.

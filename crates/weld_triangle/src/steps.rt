@@ -29,9 +29,9 @@ pub fn weld_points(
         (held w (now (vertices .entry)) (now (triangles .entry)) (now (work .entry)))
         (held r (now (vertices .exit)) (now (triangles .exit)) (now (work .exit))) ⌝ }
 {
-    let p = weld_hash::bucket_of(a, w.places);
-    let q = weld_hash::bucket_of(b, w.places);
-    let r = weld_hash::bucket_of(c, w.places);
+    let p = weld_bucket::bucket_of(a, w.places);
+    let q = weld_bucket::bucket_of(b, w.places);
+    let r = weld_bucket::bucket_of(c, w.places);
     let u = look_up(vertices, work, w, a, p);
     let su = u.st;
     let v = look_up(vertices, work, su, b, q);

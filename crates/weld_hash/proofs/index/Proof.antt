@@ -6,7 +6,8 @@ use denote.Ref.{now}
 use Prim.Native.Nat.{ℕ, _-_, _≤_}
 use lib.ListN.{length, length-set}
 use Rattle.weld_vertex.specs.Points.{Clean}
-use Rattle.weld_hash.specs.Hash.{bucketOf, Indexed}
+use Rattle.weld_bucket.specs.Bucket.{bucketOf}
+use Rattle.weld_hash.specs.Hash.{Indexed}
 use Rattle.weld_hash.proofs.Chains.{chained-next, indexed-next}
 use Rattle.weld_hash.proofs.index.Statement.{statement}
 use Rattle.weld_hash.proofs.index.Tie as tie

@@ -1,4 +1,4 @@
--- `weld_hash::bucket_of` meets its contract. Assumes nothing.
+-- `weld_bucket::bucket_of` meets its contract. Assumes nothing.
 use borrow.Author.Needs.{needs}
 use mathlib.Core.Path.{ap, _∙_}
 use Prim.Native.Nat.{ℕ, _+_, _*_, _/_, _≤_, _<_, _^_}
@@ -7,9 +7,9 @@ use native.Mathlib.Omega.{arith}
 use mir.Val.{Fits}
 use mir.Syntax.{w64}
 use Rattle.ieee.specs.Same.{finite-not-nan}
-use Rattle.weld_hash.specs.Hash.{spreadOf, middleOf, foldOf, bucketOf}
-use Rattle.weld_hash.proofs.bucket_of.Statement.{statement}
-use Rattle.weld_hash.proofs.bucket_of.Tie as tie
+use Rattle.weld_bucket.specs.Bucket.{spreadOf, middleOf, foldOf, bucketOf}
+use Rattle.weld_bucket.proofs.bucket_of.Statement.{statement}
+use Rattle.weld_bucket.proofs.bucket_of.Tie as tie
 
 scaled : (x n : ℕ) → x < 2 ^ 32 → n < 2 ^ 32 → Fits w64 (x * n)
 scaled x n p q = let s : x * n ≤ 4294967295 * n = mul-le-mul-right n (omega arith) in omega arith

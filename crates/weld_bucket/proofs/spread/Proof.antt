@@ -1,13 +1,13 @@
--- `weld_hash::spread` meets its contract: no product and no sum wraps. Assumes nothing.
+-- `weld_bucket::spread` meets its contract: no product and no sum wraps. Assumes nothing.
 use Prim.Native.Nat.{ℕ, _+_, _*_, _/_, _%_, _≤_, _<_, _^_}
 use native.Mathlib.Nat.{mul-le-mul-right}
 use native.Mathlib.Omega.{arith}
 use mir.Val.{Fits}
 use mir.Syntax.{w64}
 use mathlib.Core.Path.{refl}
-use Rattle.weld_hash.specs.Hash.{spreadOf}
-use Rattle.weld_hash.proofs.spread.Statement.{statement}
-use Rattle.weld_hash.proofs.spread.Tie as tie
+use Rattle.weld_bucket.specs.Bucket.{spreadOf}
+use Rattle.weld_bucket.proofs.spread.Statement.{statement}
+use Rattle.weld_bucket.proofs.spread.Tie as tie
 
 module _ (bits low high : ℕ) (b : bits < 2 ^ 64) where
   lows : bits % 4294967296 * low ≤ 4294967295 * low

@@ -1,0 +1,2 @@
+-- What the contracts of `weld_bucket` cite.
+pub mod Bucket
