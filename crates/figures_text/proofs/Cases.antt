@@ -6,7 +6,7 @@ use Prim.Native.Nat.{ℕ, _-_, _/_, _%_, _≤_, _<_}
 use borrow.Author.Tests.{lt-ltb, le-ltb, ltb-true}
 use lib.Dec.{eqb, ltb, leb}
 use lib.Ieee.{Float, binary64, ofBits, add, sub}
-use Rattle.ieee.specs.Number.{ceiling}
+use Rattle.ieee_whole.specs.Whole.{ceiling}
 use Rattle.refusal.specs.Number.{numberOf}
 use Rattle.mesh_check.specs.declared.TriMesh.{TriMesh}
 use Rattle.mesh_measures.specs.declared.Measured.{Measured}

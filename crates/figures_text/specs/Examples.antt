@@ -1,8 +1,8 @@
 -- Texts of a few floats, by computation: a half, the float after it, and 2^-1. Assumes nothing.
 use mathlib.Core.Path.{_≡_, refl}
 use lib.Ieee.{ofBits, add, sub, ofInt, lt, eq}
-use Rattle.ieee.specs.Whole.{wholeOf}
-use Rattle.ieee.specs.Number.{ceiling}
+use Rattle.ieee_whole.specs.Whole.{wholeOf}
+use Rattle.ieee_whole.specs.Whole.{ceiling}
 use Rattle.slice_text.specs.Ascii.{ascii}
 use Rattle.slice_text.specs.Numbers.{decimalWithin, hexOf}
 use Rattle.figures_text.specs.Floats.{isWhole, isSmallPower, byBitsOf, magnitudeOf, floatBitsOf}

@@ -4,8 +4,8 @@ use mathlib.Core.List.{List, _++_}
 use Prim.Native.Nat.{ℕ, _-_, _/_, _%_}
 use lib.Dec.{eqb, ltb, leb}
 use lib.Ieee.{Float, binary64, ofBits, add, sub, lt, eq}
-use Rattle.ieee.specs.Whole.{wholeOf}
-use Rattle.ieee.specs.Number.{ceiling}
+use Rattle.ieee_whole.specs.Whole.{wholeOf}
+use Rattle.ieee_whole.specs.Whole.{ceiling}
 use Rattle.slice_text.specs.Ascii.{ascii}
 use Rattle.slice_text.specs.Numbers.{decimalOf, hexOf}
 

@@ -12,7 +12,7 @@ fn is_whole(y: f64) -> bool
     ensures { λ r. ⌜ r ≡ isWhole y ⌝ }
 {
     if y < 1000000000000000.0 {
-        let w = ieee::nearest_whole(y);
+        let w = ieee_whole::nearest_whole(y);
         return w.value == y;
     }
     false
@@ -43,11 +43,11 @@ fn put_magnitude(out: &mut [u8], at: usize, b: u64) -> usize
 {
     let y = ieee::from_bits(b);
     if is_whole(y) {
-        return put_decimal(out, at, ieee::ceil_to_usize(y) as u64);
+        return put_decimal(out, at, ieee_whole::ceil_to_usize(y) as u64);
     }
     // a half: twice it is whole, and y + y is exact
     if is_whole(y + y) {
-        let to = put_decimal(out, at, ieee::ceil_to_usize(y - 0.5) as u64);
+        let to = put_decimal(out, at, ieee_whole::ceil_to_usize(y - 0.5) as u64);
         return put(out, to, b".5");
     }
     put_by_bits(out, at, b)

@@ -1,10 +1,9 @@
 -- Worked examples of the definitions, by computation. Floats are given by their bits.
 use mathlib.Core.Path.{_≡_, refl}
-use lib.IntN.{pos, negsuc}
-use lib.Ieee.{nan, inf, fin, binary64, ofBits, lt, isNan}
-use mathlib.Core.Bool.{true, false}
-use Rattle.ieee.specs.Number.{minimum, maximum, absolute, ceiling, plusZero}
-use Rattle.ieee.specs.Whole.{nearestWhole, mod4}
+use lib.IntN.{pos}
+use lib.Ieee.{nan, fin, binary64, ofBits, lt, isNan}
+use mathlib.Core.Bool.{true}
+use Rattle.ieee.specs.Number.{minimum, maximum, absolute, plusZero}
 
 -- min(-0.0, +0.0) is the first, and max(NaN, 1.0) is 1.0
 min-of-zeros : minimum (fin true 0 (pos 0)) plusZero ≡ fin true 0 (pos 0)
@@ -19,33 +18,3 @@ max-of-nan = refl
 abs-of-minus-zero : absolute (fin true 0 (pos 0)) ≡ plusZero
 unfolding absolute
 abs-of-minus-zero = refl
-
--- the ceiling of 2.5 is 3, of 2.0 it is 2, of -0.5 it is 0, of an infinity the largest usize
-ceiling-of-fraction : ceiling (ofBits binary64 0x4004000000000000) ≡ 3
-unfolding ceiling ofBits
-ceiling-of-fraction = refl
-
-ceiling-of-whole : ceiling (ofBits binary64 0x4000000000000000) ≡ 2
-unfolding ceiling ofBits
-ceiling-of-whole = refl
-
-ceiling-below-zero : ceiling (ofBits binary64 0xBFE0000000000000) ≡ 0
-unfolding ceiling ofBits
-ceiling-below-zero = refl
-
-ceiling-of-infinity : ceiling (inf false) ≡ 18446744073709551615
-unfolding ceiling
-ceiling-of-infinity = refl
-
--- halves go away from zero: 2.5 to 3, and -0.5 to -1, whose remainder modulo 4 is 3
-half-up-from-zero : nearestWhole (ofBits binary64 0x4004000000000000) ≡ pos 3
-unfolding nearestWhole ofBits
-half-up-from-zero = refl
-
-half-down-from-zero : nearestWhole (ofBits binary64 0xBFE0000000000000) ≡ negsuc 0
-unfolding nearestWhole ofBits
-half-down-from-zero = refl
-
-minus-one-modulo-four : mod4 (negsuc 0) ≡ 3
-unfolding mod4
-minus-one-modulo-four = refl

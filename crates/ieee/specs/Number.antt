@@ -4,11 +4,11 @@
 -- f64::is_finite is lib.Ieee.Scale's `finite`: true of every number, zeros of both signs too, and false of a NaN and of the two infinities.
 use mathlib.Core.Path.{_≡_}
 use mathlib.Core.Logic.{_⊎_}
-use Prim.Native.Nat.{ℕ, zero, suc, _+_, _-_, _*_, _/_, _^_, min}
+use Prim.Native.Nat.{zero, suc}
 use mathlib.Core.Bool.{Bool, true, false, cond}
 use lib.IntN.{pos}
 use lib.Dec.{T}
-use lib.Ieee.{Float, nan, inf, fin, binary64, up, down, lt, isNan, ofBits}
+use lib.Ieee.{Float, nan, inf, fin, binary64, lt, isNan, ofBits}
 
 -- x == 0.0 in Rust: a zero of either sign
 abbrev pub isZero : Float → Bool
@@ -45,13 +45,6 @@ unfoldable pub absolute : Float → Float
 absolute nan = nan
 absolute (inf s) = inf false
 absolute (fin s m e) = fin false m e
-
--- y.ceil() as usize, on 64 bits: the least whole number that is no smaller than y, and at most 2 ^ 64 - 1.
--- A NaN, a zero of either sign and what is below zero give 0
-unfoldable pub ceiling : Float → ℕ
-ceiling nan = 0
-ceiling (inf s) = cond s 0 (2 ^ 64 - 1)
-ceiling (fin s m e) = cond s 0 (min ((m * up e + (down e - 1)) / down e) (2 ^ 64 - 1))
 
 -- core::f64::consts::PI
 abbrev pub pi : Float

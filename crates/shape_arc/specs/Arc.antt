@@ -3,7 +3,8 @@ use Prim.Native.Nat.{ℕ, max}
 use mathlib.Core.Bool.{Bool, cond}
 use lib.IntN.{pos}
 use lib.Ieee.{Float, binary64, sub, mul, div, ofInt, ofBits, isNan, le}
-use Rattle.ieee.specs.Number.{plusZero, minimum, absolute, ceiling, tau}
+use Rattle.ieee.specs.Number.{plusZero, minimum, absolute, tau}
+use Rattle.ieee_whole.specs.Whole.{ceiling}
 
 -- the span that counts: 0.0 for a NaN, else `span.abs().min(TAU)`
 unfoldable pub countedSpan : Float → Float

@@ -5,9 +5,10 @@ use Prim.Native.Nat.{ℕ, _≤_, _<_, max}
 use native.Mathlib.Omega.{arith}
 use lib.Dec.{T}
 use lib.Ieee.{Float, nan, mul, div, neg, ofInt, ofBits, isNan, lt, le}
-use Rattle.ieee.specs.Number.{plusZero, minimum, absolute, ceiling, pi, tau}
-use Rattle.ieee.specs.Sweep.{sweep, Within, sweep-within, arc-within}
-use Rattle.ieee.specs.Ceil.{ceiling-le}
+use Rattle.ieee.specs.Number.{plusZero, minimum, absolute, pi, tau}
+use Rattle.ieee_whole.specs.Whole.{ceiling}
+use Rattle.ieee_whole.specs.Sweep.{sweep, Within, sweep-within, arc-within}
+use Rattle.ieee_whole.specs.Ceil.{ceiling-le}
 use Rattle.shape_arc.specs.Arc.{countedSpan, arcShare, arcSegments}
 
 pub arcSegments-some : (segments : ℕ) (span : Float) → 1 ≤ arcSegments segments span

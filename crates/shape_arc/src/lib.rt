@@ -37,7 +37,7 @@ pub fn arc_segments(segments: usize, span: f64) -> usize
     requires { ⌜ segments ≤ 1024 ⌝ }
     ensures { λ r. ⌜ r ≡ arcSegments segments span ⌝ }
 {
-    larger(ieee::ceil_to_usize(arc_share(segments, span)), 1)
+    larger(ieee_whole::ceil_to_usize(arc_share(segments, span)), 1)
 }
 
 // Whether a span is a full turn.

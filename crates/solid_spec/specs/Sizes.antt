@@ -6,7 +6,8 @@ use Prim.Native.Nat.{ℕ}
 use lib.IntN.{pos}
 use lib.ListN.{length}
 use lib.Ieee.{Float, binary64, add, sub, mul, div, neg, ofInt, ofBits, eq, ne, lt, le, isNan}
-use Rattle.ieee.specs.Number.{minimum, maximum, absolute, ceiling, tau}
+use Rattle.ieee.specs.Number.{minimum, maximum, absolute, tau}
+use Rattle.ieee_whole.specs.Whole.{ceiling}
 use Rattle.root.specs.Sqrt.{sqrt}
 use Rattle.math.specs.declared.Vec3.{Vec3}
 use Rattle.math.specs.Vec.{new, vSub, vMin, vMax, dot, normSq, norm}

@@ -8,7 +8,8 @@ use native.Mathlib.Omega.{arith}
 use lib.IntN.{pos, negsuc}
 use lib.ListN.{length, take}
 use lib.Ieee.{Float, fin, binary64, add, sub, mul, div, neg, ofInt, ofBits, eq, lt, le, isNan}
-use Rattle.ieee.specs.Number.{minimum, maximum, absolute, ceiling, pi, tau}
+use Rattle.ieee.specs.Number.{minimum, maximum, absolute, pi, tau}
+use Rattle.ieee_whole.specs.Whole.{ceiling}
 use Rattle.root.specs.Sqrt.{sqrt}
 use Rattle.math.specs.declared.Vec3.{Vec3}
 use Rattle.math.specs.Vec.{vSub, vMin, vMax, dot, cross, normSq, norm}

@@ -8,8 +8,8 @@ use lib.IntN.{ℤ, pos}
 use lib.Dec.{T}
 use lib.Ieee.{Float, nan, inf, fin, binary64, add, sub, mul, div, neg, ofInt, ofBits}
 use Rattle.ieee.specs.Same.{Same, isZero, plusZero, same-refl, neg-same, add-same, sub-same, mul-same, mul-zero-l}
-use Rattle.ieee.specs.Whole.{mod4}
-use Rattle.ieee.specs.WholeLaws.{nearest-zero}
+use Rattle.ieee_whole.specs.Whole.{mod4}
+use Rattle.ieee_whole.specs.WholeLaws.{nearest-zero}
 use Rattle.trig.specs.declared.SinCos.{SinCos}
 use Rattle.trig.specs.Trig.{constH, constA, constB, constC, reduced, overFactorial, horner, sineTerms, cosineTerms, sineSum, cosineSum, quadrant}
 use Rattle.trig.specs.Trig.{fromReduced, fromWhole, sinCos}

@@ -1,7 +1,7 @@
 -- `shape_arc::arc_segments` meets its contract. Assumes nothing.
 use mathlib.Core.Path.{_∙_}
 use Prim.Native.Nat.{max}
-use Rattle.ieee.specs.Number.{ceiling}
+use Rattle.ieee_whole.specs.Whole.{ceiling}
 use Rattle.shape_arc.specs.Arc.{arcSegments}
 use borrow.Author.Needs.{needs}
 use Rattle.shape_arc.proofs.arc_segments.Statement.{statement}

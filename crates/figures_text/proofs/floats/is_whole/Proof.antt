@@ -2,8 +2,8 @@
 use mathlib.Core.Path.{sym, ap, _∙_}
 use mathlib.Core.Bool.{Bool, _&&_}
 use lib.Ieee.{eq}
-use Rattle.ieee.specs.declared.Whole.{Whole}
-use Rattle.ieee.specs.Whole.{wholeOf}
+use Rattle.ieee_whole.specs.declared.Whole.{Whole}
+use Rattle.ieee_whole.specs.Whole.{wholeOf}
 use Rattle.figures_text.specs.Floats.{isWhole}
 use borrow.Author.Needs.{needs}
 use Rattle.figures_text.proofs.floats.is_whole.Statement.{statement}

@@ -1,4 +1,4 @@
--- `ieee::ceil_to_usize` meets its contract: a law for each way through its tests. Assumes nothing.
+-- `ieee_whole::ceil_to_usize` meets its contract: a law for each way through its tests. Assumes nothing.
 use mathlib.Core.Path.{_≡_, sym, ap, _∙_, subst}
 use mathlib.Core.Bool.{true, false}
 use Prim.Native.Nat.{ℕ, _+_}
@@ -7,10 +7,10 @@ use lib.IntN.{pos}
 use lib.Dec.{T}
 use lib.Ieee as Ieee
 use lib.Ieee.{binary64, ofBits, fits}
 use Rattle.ieee.specs.Same.{true-T}
-use Rattle.ieee.proofs.Ceiling.{Below, below, far-asks, far, past, not-above}
-use Rattle.ieee.proofs.ceil_to_usize.Statement.{statement}
-use Rattle.ieee.proofs.ceil_to_usize.Tie as tie
+use Rattle.ieee_whole.proofs.Ceiling.{Below, below, far-asks, far, past, not-above}
+use Rattle.ieee_whole.proofs.ceil_to_usize.Statement.{statement}
+use Rattle.ieee_whole.proofs.ceil_to_usize.Tie as tie
 
 -- both tests passed: above zero, below 2 ^ 52
 small : (c : tie.Then2) → Below (c .before .before .args .y)

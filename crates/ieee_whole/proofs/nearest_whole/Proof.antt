@@ -1,13 +1,13 @@
--- `ieee::nearest_whole` meets its contract: a law for each way through its tests. Assumes nothing.
+-- `ieee_whole::nearest_whole` meets its contract: a law for each way through its tests. Assumes nothing.
 use borrow.Author.Needs.{needs}
 use mathlib.Core.Path.{sym, ap, subst, _∙_}
 use Prim.Native.Nat.{_%_}
 use lib.Dec.{T}
 use lib.Ieee.{Float, binary64, fits, ofBits, neg}
-use Rattle.ieee.proofs.Near.{whole, near-neg-asks, near-neg, near-pos-asks, near-pos}
-use Rattle.ieee.proofs.Far.{mid-neg-cut, mid-neg, huge-neg, mid-pos-cut, mid-pos, huge-pos}
-use Rattle.ieee.proofs.nearest_whole.Statement.{statement}
-use Rattle.ieee.proofs.nearest_whole.Tie as tie
+use Rattle.ieee_whole.proofs.Near.{whole, near-neg-asks, near-neg, near-pos-asks, near-pos}
+use Rattle.ieee_whole.proofs.Far.{mid-neg-cut, mid-neg, huge-neg, mid-pos-cut, mid-pos, huge-pos}
+use Rattle.ieee_whole.proofs.nearest_whole.Statement.{statement}
+use Rattle.ieee_whole.proofs.nearest_whole.Tie as tie
 
 held : (c : tie.Start) → T (fits binary64 (c .args .p))
 held c = subst T (sym (c .good .0 .1)) tt

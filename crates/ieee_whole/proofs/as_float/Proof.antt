@@ -1,12 +1,12 @@
--- `ieee::as_float` meets its contract. Assumes nothing.
+-- `ieee_whole::as_float` meets its contract. Assumes nothing.
 use borrow.Author.Needs.{needs}
 use mathlib.Core.Path.{sym, ap, subst}
 use lib.Dec.{T}
 use lib.IntN.{ℤ}
 use lib.Ieee.{binary64, ofInt, inFloat}
-use Rattle.ieee.proofs.Signed.{read, in-float}
-use Rattle.ieee.proofs.as_float.Statement.{statement}
-use Rattle.ieee.proofs.as_float.Tie as tie
+use Rattle.ieee_whole.proofs.Signed.{read, in-float}
+use Rattle.ieee_whole.proofs.as_float.Statement.{statement}
+use Rattle.ieee_whole.proofs.as_float.Tie as tie
 
 cast-result : tie.Need-cast-result
 cast-result c = search needs

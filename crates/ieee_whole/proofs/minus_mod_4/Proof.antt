@@ -1,9 +1,9 @@
--- `ieee::minus_mod_4` meets its contract. Assumes nothing.
+-- `ieee_whole::minus_mod_4` meets its contract. Assumes nothing.
 use borrow.Author.Needs.{needs}
 use mathlib.Core.Path.{sym}
-use Rattle.ieee.specs.WholeLaws.{mod4-neg}
-use Rattle.ieee.proofs.minus_mod_4.Statement.{statement}
-use Rattle.ieee.proofs.minus_mod_4.Tie as tie
+use Rattle.ieee_whole.specs.WholeLaws.{mod4-neg}
+use Rattle.ieee_whole.proofs.minus_mod_4.Statement.{statement}
+use Rattle.ieee_whole.proofs.minus_mod_4.Tie as tie
 
 sub-result : tie.Need-sub-result
 sub-result c = search needs

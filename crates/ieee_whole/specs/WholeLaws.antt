@@ -9,8 +9,8 @@ use lib.Dec.{T}
 use lib.Ieee.{Float, nan, inf, fin, binary64, up, down, ofInt}
 use lib.Ieee.Fits.{down-pos}
 use lib.Ieee.Scale.{finite}
 use Rattle.ieee.specs.Number.{isZero}
-use Rattle.ieee.specs.Whole.{halfUp, nearestWhole, mod4, wholeOf}
+use Rattle.ieee_whole.specs.Whole.{halfUp, nearestWhole, mod4, wholeOf}
 
 -- a / b - 1 / 2 < halfUp a b ≤ a / b + 1 / 2, so no whole number is nearer, and at a tie it is the upper one
 pub half-up-nearest : (a b : ℕ) → 0 < b → (halfUp a b * (2 * b) ≤ 2 * a + b) × (2 * a < halfUp a b * (2 * b) + b)

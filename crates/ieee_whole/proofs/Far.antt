@@ -12,12 +12,12 @@ use lib.Ieee.{Float, nan, inf, fin, binary64, up, down, round, neg, lt, toUnsign
 use lib.Ieee.Fits.{down-pos, round-fits}
 use lib.Ieee.Back.{whole-unique}
 use borrow.Author.Tests.{ltb-true, ltb-false}
 use Rattle.ieee.specs.Number.{plusZero}
 use Rattle.ieee.specs.Scaled.{held, itself}
-use Rattle.ieee.specs.Whole.{halfUp, signed, mod4, wholeOf}
-use Rattle.ieee.specs.WholeLaws.{mod4-neg}
-use Rattle.ieee.proofs.Cut.{Cut, cut, never-below, plain<, plain≤, cut-off}
-use Rattle.ieee.proofs.Near.{whole}
+use Rattle.ieee_whole.specs.Whole.{halfUp, signed, mod4, wholeOf}
+use Rattle.ieee_whole.specs.WholeLaws.{mod4-neg}
+use Rattle.ieee_whole.proofs.Cut.{Cut, cut, never-below, plain<, plain≤, cut-off}
+use Rattle.ieee_whole.proofs.Near.{whole}
 
 pub half-up-one : (a : ℕ) → halfUp a 1 ≡ a
 unfolding halfUp

@@ -1,11 +1,11 @@
--- `ieee::half_up` meets its contract: a + a is exact, and the whole part of 2 a, plus 1, halved, is the whole number nearest to a. Assumes nothing.
+-- `ieee_whole::half_up` meets its contract: a + a is exact, and the whole part of 2 a, plus 1, halved, is the whole number nearest to a. Assumes nothing.
 use mathlib.Core.Path.{sym, ap, _∙_, subst}
 use Prim.Native.Nat.{ℕ, _+_, _/_, _^_, _≤_}
 use native.Mathlib.Omega.{arith}
 use lib.Dec.{T}
-use Rattle.ieee.proofs.Near.{Halved, half-up}
-use Rattle.ieee.proofs.half_up.Statement.{statement}
-use Rattle.ieee.proofs.half_up.Tie as tie
+use Rattle.ieee_whole.proofs.Near.{Halved, half-up}
+use Rattle.ieee_whole.proofs.half_up.Statement.{statement}
+use Rattle.ieee_whole.proofs.half_up.Tie as tie
 
 facts : (c : tie.Start) → Halved (c .args .a)
 facts c = half-up (c .args .a) (subst T (sym (c .good .0 .1)) tt) (c .pre .0) (c .pre .1)

@@ -9,9 +9,9 @@ use lib.Dec.{T}
 use lib.Ieee.{Float, nan, inf, fin, up, down, le}
 use lib.Ieee.Fits.{down-pos}
 use lib.Ieee.Positive.{num, den, positive, den-pos, le→cross}
-unfoldable pub use Rattle.ieee.specs.Number.{ceiling}
+unfoldable pub use Rattle.ieee_whole.specs.Whole.{ceiling}
 use Rattle.ieee.specs.Number.{isZero}
-use Rattle.ieee.specs.Sweep.{top, Within, zero-or-positive}
+use Rattle.ieee_whole.specs.Sweep.{top, Within, zero-or-positive}
 
 -- ---- whole numbers
 le-of-lt-suc : (a k : ℕ) → a < suc k → a ≤ k

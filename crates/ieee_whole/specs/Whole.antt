@@ -1,9 +1,9 @@
--- A float rounded to a whole number, where a half goes away from zero, and what is left of that number by 4: q and q mod 4 of docs/SCOPE.md, T2.
-use Prim.Native.Nat.{ℕ, _+_, _-_, _*_, _/_, _%_}
-use mathlib.Core.Bool.{Bool, true, false}
+-- Whole numbers of a float: the ceiling; the nearest one, where a half goes away from zero, and what is left of it by 4 (q and q mod 4 of docs/SCOPE.md, T2).
+use Prim.Native.Nat.{ℕ, _+_, _-_, _*_, _/_, _%_, _^_, min}
+use mathlib.Core.Bool.{Bool, true, false, cond}
 use lib.IntN.{ℤ, pos, negsuc, negℤ}
 use lib.Ieee.{Float, nan, inf, fin, binary64, up, down, ofInt}
-use Rattle.ieee.specs.declared.Whole.{Whole}
+use Rattle.ieee_whole.specs.declared.Whole.{Whole}
 
 -- the whole number nearest to a / b, a half going up: a / b + 1 / 2 without its fraction
 unfoldable pub halfUp : ℕ → ℕ → ℕ
@@ -40,3 +40,10 @@ unfolding nearestWhole mod4
 wholeOf nan = record { value = nan; «mod_4» = 0 }
 wholeOf (inf s) = record { value = inf s; «mod_4» = 0 }
 wholeOf (fin s m e) = record { value = ofInt binary64 (nearestWhole (fin s m e)); «mod_4» = mod4 (nearestWhole (fin s m e)) }
+
+-- y.ceil() as usize, on 64 bits: the least whole number that is no smaller than y, and at most 2 ^ 64 - 1.
+-- A NaN, a zero of either sign and what is below zero give 0
+unfoldable pub ceiling : Float → ℕ
+ceiling nan = 0
+ceiling (inf s) = cond s 0 (2 ^ 64 - 1)
+ceiling (fin s m e) = cond s 0 (min ((m * up e + (down e - 1)) / down e) (2 ^ 64 - 1))

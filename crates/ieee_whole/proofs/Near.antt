@@ -15,12 +15,12 @@ use lib.Ieee.Fits.{down-pos, and-l}
 use lib.Ieee.Exact.{HasValue}
 use lib.Ieee.Order.{le-of-values}
 use borrow.Author.Tests.{ltb-true, ltb-false}
 use Rattle.ieee.specs.Number.{plusZero}
 use Rattle.ieee.specs.Scaled.{doubled}
-use Rattle.ieee.specs.Whole.{halfUp, nearestMagnitude, mod4, wholeOf}
-use Rattle.ieee.specs.WholeLaws.{half-up-zero}
-use Rattle.ieee.proofs.Cut.{cut, never-below}
-use Rattle.ieee.specs.declared.Whole.{Whole}
+use Rattle.ieee_whole.specs.Whole.{halfUp, nearestMagnitude, mod4, wholeOf}
+use Rattle.ieee_whole.specs.WholeLaws.{half-up-zero}
+use Rattle.ieee_whole.proofs.Cut.{cut, never-below}
+use Rattle.ieee_whole.specs.declared.Whole.{Whole}
 
 -- ---- the whole number nearest to a / b
 

@@ -13,10 +13,11 @@ use lib.Ieee.{Float, nan, inf, fin, binary64, up, down, ofInt, toUnsigned, inFlo
 use lib.Ieee.Fits.{down-pos}
 use lib.Ieee.Exact.{HasValue}
 use borrow.Author.Tests.{ltb-true, ltb-false}
-use Rattle.ieee.specs.Number.{plusZero, ceiling}
+use Rattle.ieee.specs.Number.{plusZero}
+use Rattle.ieee_whole.specs.Whole.{ceiling}
 use Rattle.ieee.specs.Scaled.{held}
 use Rattle.ieee.specs.Ends.{ofNat-value}
-use Rattle.ieee.proofs.Cut.{Cut, cut, plain<, plain≤, cut-off}
+use Rattle.ieee_whole.proofs.Cut.{Cut, cut, plain<, plain≤, cut-off}
 
 -- ---- whole numbers: the ceiling of N / D from q = N / D without its fraction
 above-cut : (N D q : ℕ) → 0 < D → N / D ≡ q → q * D < N → (N + (D - 1)) / D ≡ q + 1
