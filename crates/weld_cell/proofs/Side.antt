@@ -10,9 +10,10 @@ use Rattle.math.specs.Vec.{vFinite}
 use Rattle.mesh_spec.specs.Mesh.{plusZeroV}
 use Rattle.weld.specs.declared.Welder.{Welder}
 use Rattle.weld.specs.Rep.{Held, held, Ready}
-use Rattle.weld_triangle.specs.declared.Welded.{Welded}
-use Rattle.weld_triangle.specs.Steps.{PointRuns, TriangleRuns}
-use Rattle.weld_triangle.proofs.Point.{point-known}
+use Rattle.weld_search.specs.declared.Welded.{Welded}
+use Rattle.weld_search.specs.Search.{PointRuns}
+use Rattle.weld_triangle.specs.Steps.{TriangleRuns}
+use Rattle.weld_search.proofs.Point.{point-known}
 use Rattle.weld_triangle.proofs.Triangle.{linked-moved}
 use Rattle.weld_quad.specs.declared.Quad.{Quad}
 use Rattle.weld_quad.specs.Quads.{Known, Numbered}

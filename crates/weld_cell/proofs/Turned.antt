@@ -8,7 +8,7 @@ use Rattle.math.specs.declared.Vec3.{Vec3}
 use Rattle.mesh_balance_spec.specs.Soup.{Tri}
 use Rattle.mesh_balance_spec.specs.Grid.{quad, quadTurned}
 use Rattle.slice_law.specs.Bools.{not-both}
-use Rattle.weld_triangle.specs.declared.Welded.{Welded}
+use Rattle.weld_search.specs.declared.Welded.{Welded}
 use Rattle.weld.specs.declared.Welder.{Welder}
 use Rattle.weld.specs.Rep.{Held, Linked}
 use Rattle.weld_quad.specs.declared.Quad.{Quad}

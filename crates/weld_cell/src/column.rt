@@ -85,9 +85,9 @@ fn weld_side(
         (held w (now (vertices .entry)) (now (triangles .entry)) (now (work .entry)))
         r (now (vertices .exit)) (now (triangles .exit)) (now (work .exit)) ⌝ }
 {
-    let pb = weld_triangle::weld_point(vertices, work, w, b, nb);
+    let pb = weld_search::weld_point(vertices, work, w, b, nb);
     let sb = pb.st;
-    let pc = weld_triangle::weld_point(vertices, work, sb, c, nc);
+    let pc = weld_search::weld_point(vertices, work, sb, c, nc);
     let sc = pc.st;
     let u = weld_triangle::add_triangle(triangles, sc, na, pb.number, pc.number);
     let v = weld_triangle::add_triangle(triangles, u, na, pc.number, nd);
@@ -119,10 +119,10 @@ fn weld_turned_side(
         (held w (now (vertices .entry)) (now (triangles .entry)) (now (work .entry)))
         r (now (vertices .exit)) (now (triangles .exit)) (now (work .exit)) ⌝ }
 {
-    let pc = weld_triangle::weld_point(vertices, work, w, c, nc);
+    let pc = weld_search::weld_point(vertices, work, w, c, nc);
     let sc = pc.st;
     let u = weld_triangle::add_triangle(triangles, sc, na, nd, pc.number);
-    let pb = weld_triangle::weld_point(vertices, work, u, b, nb);
+    let pb = weld_search::weld_point(vertices, work, u, b, nb);
     let sb = pb.st;
     let v = weld_triangle::add_triangle(triangles, sb, na, pc.number, pb.number);
     Quad {

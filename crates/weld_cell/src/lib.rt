@@ -79,7 +79,7 @@ pub fn weld_in_row(
             if math::is_finite(c) {
                 let second = pick(flip, nd, nb);
                 let fourth = pick(flip, nb, nd);
-                let t = weld_triangle::weld_point(vertices, work, w, weld::plus_zero(c), nc);
+                let t = weld_search::weld_point(vertices, work, w, weld::plus_zero(c), nc);
                 let st = t.st;
                 let u = weld_triangle::add_triangle(triangles, st, na, second, t.number);
                 let v = weld_triangle::add_triangle(triangles, u, na, t.number, fourth);

@@ -20,12 +20,13 @@ use Rattle.weld_hash.specs.Hash.{Distinct, FirstAt}
 use Rattle.slice_law.specs.Bools.{not-both}
 use Rattle.weld_hash.proofs.Chains.{first-at}
 use Rattle.weld.specs.declared.Welder.{Welder}
-use Rattle.weld_triangle.specs.declared.Welded.{Welded}
+use Rattle.weld_search.specs.declared.Welded.{Welded}
 use Rattle.weld.specs.Rep.{Held, held, Linked, Ready, Rep, Runs}
 use Rattle.weld.specs.States.{unfinite}
-use Rattle.weld_triangle.specs.Steps.{weldPoints, PointRuns, TriangleRuns, PointsRun}
+use Rattle.weld_search.specs.Search.{PointRuns}
+use Rattle.weld_triangle.specs.Steps.{weldPoints, TriangleRuns, PointsRun}
 use Rattle.weld.proofs.Places.{places-limit}
-use Rattle.weld_triangle.proofs.Point.{point-known}
+use Rattle.weld_search.proofs.Point.{point-known}
 use Rattle.weld_triangle.proofs.Triangle.{and-false, linked-moved, points-run}
 use Rattle.weld_quad.specs.declared.Quad.{Quad}
 use Rattle.weld_quad.specs.Quads.{Given, Known, Numbered, QuadRuns, CornersRun, quadWith, LastRuns}

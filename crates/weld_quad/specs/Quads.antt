@@ -14,7 +14,7 @@ use Rattle.weld_vertex.specs.Points.{isAt}
 use Rattle.weld_hash.specs.Hash.{FirstAt}
 use Rattle.weld.specs.declared.Welder.{Welder}
 use Rattle.weld.specs.Rep.{Held, held, Ready, Rep, Runs}
-use Rattle.weld_triangle.specs.declared.Welded.{Welded}
+use Rattle.weld_search.specs.declared.Welded.{Welded}
 use Rattle.weld_triangle.specs.Steps.{weldPoints}
 use Rattle.weld_quad.specs.declared.Quad.{Quad}
 

@@ -9,7 +9,7 @@ ghost use Rattle.weld_quad.specs.Quads.{isVertex, Known, CornersRun, Las
 use crate::Quad;
 use math::Vec3;
 use weld::Welder;
-use weld_triangle::Welded;
+use weld_search::Welded;
 
 // Whether p equals vertex m, and this is one of this part. If so p is finite, as all vertices are.
 pub fn is_vertex(vertices: &[f64], w: Welder, m: usize, p: Vec3) -> bool
@@ -67,7 +67,7 @@ pub fn weld_last(
             st: weld::stopped(w),
         };
     }
-    let t = weld_triangle::weld_point(vertices, work, w, weld::plus_zero(c), guess);
+    let t = weld_search::weld_point(vertices, work, w, weld::plus_zero(c), guess);
     let nc = t.number;
     let st = t.st;
     let u = weld_triangle::add_triangle(triangles, st, na, nb, nc);
@@ -96,14 +96,14 @@ pub fn weld_both(
         (held w (now (vertices .entry)) (now (triangles .entry)) (now (work .entry)))
         r (now (vertices .exit)) (now (triangles .exit)) (now (work .exit)) ⌝ }
 {
-    let pa = weld_triangle::weld_point(vertices, work, w, a, na);
+    let pa = weld_search::weld_point(vertices, work, w, a, na);
     let sa = pa.st;
-    let pb = weld_triangle::weld_point(vertices, work, sa, b, nb);
+    let pb = weld_search::weld_point(vertices, work, sa, b, nb);
     let sb = pb.st;
-    let pc = weld_triangle::weld_point(vertices, work, sb, c, nc);
+    let pc = weld_search::weld_point(vertices, work, sb, c, nc);
     let sc = pc.st;
     let u = weld_triangle::add_triangle(triangles, sc, pa.number, pb.number, pc.number);
-    let pd = weld_triangle::weld_point(vertices, work, u, d, nd);
+    let pd = weld_search::weld_point(vertices, work, u, d, nd);
     let sd = pd.st;
     let v = weld_triangle::add_triangle(triangles, sd, pa.number, pc.number, pd.number);
     Quad {

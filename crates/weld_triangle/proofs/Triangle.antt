@@ -15,14 +15,15 @@ use Rattle.mesh_balance_spec.specs.Buffer.{flat-append}
 use Rattle.math.specs.Vec.{vFinite}
 use Rattle.mesh_spec.specs.Mesh.{Mesh, plusZeroV, distinct, append, weldTriangle, weldSoup, everyFinite}
 use Rattle.weld.specs.declared.Welder.{Welder}
-use Rattle.weld_triangle.specs.declared.Welded.{Welded}
+use Rattle.weld_search.specs.declared.Welded.{Welded}
 use Rattle.slice.specs.Every.{placesOf}
 use Rattle.weld.specs.Rep.{Held, held, rowOf, Linked, Ready, Holds, Over, Rep, Runs}
 use Rattle.weld.specs.States.{unfinite, shut, moreFaces}
-use Rattle.weld_triangle.specs.Steps.{withTriangle, weldPoints, PointRuns, TriangleRuns, PointsRun}
+use Rattle.weld_search.specs.Search.{PointRuns}
+use Rattle.weld_triangle.specs.Steps.{withTriangle, weldPoints, TriangleRuns, PointsRun}
 use Rattle.weld.proofs.Places.{take-three, places-fit, places-long}
 use Rattle.slice_law.specs.Bools.{not-both}
-use Rattle.weld_triangle.proofs.Point.{rep-shut, three-more}
+use Rattle.weld_search.proofs.Point.{rep-shut, three-more}
 
 -- ---- three different numbers
 module _ (t : Tri ℕ) where

@@ -3,19 +3,11 @@
 ghost use mathlib.Core.List.{[], _∷_};
 ghost use Rattle.weld.specs.Rep.{held, Ready, Runs};
 
-mod search;
 mod steps;
 
 use math::Vec3;
 pub use steps::add_triangle;
-pub use steps::weld_point;
 use weld::Welder;
-
-// The number of a point, and the state after it.
-pub struct Welded {
-    pub number: usize,
-    pub st: Welder,
-}
 
 // Welds a triangle. A point that is not finite stops the welder.
 pub fn weld_triangle(

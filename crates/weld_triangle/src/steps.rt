@@ -2,15 +2,11 @@
 ghost use Prim.Native.Nat.{_≤_, _<_, _^_};
 ghost use Rattle.weld_vertex.specs.Points.{Clean};
 ghost use Rattle.slice.specs.Every.{placesOf};
-ghost use Rattle.weld.specs.Rep.{held, Linked, Ready};
-ghost use Rattle.weld_triangle.specs.Steps.{BucketOrNone, PointRuns, TriangleRuns, PointsRun};
-use crate::Welded;
-use crate::search;
+ghost use Rattle.weld.specs.Rep.{held, Ready};
+ghost use Rattle.weld_triangle.specs.Steps.{TriangleRuns, PointsRun};
 use math::Vec3;
 use weld::Welder;
-
-// No bucket: more than there are places.
-const NO_BUCKET: usize = 4294967296;
+use weld_search::look_up;
 
 // One turn of from_soup's loop after `+ 0.0`: the three points get numbers, and the triangle stays where the numbers differ. The buckets of
 // all three are worked out before the first look-up, with which soups of few vertices take up to a tenth less time.
@@ -39,59 +35,6 @@ pub fn weld_points(
     let t = look_up(vertices, work, sv, c, r);
     let st = t.st;
     add_triangle(triangles, st, u.number, v.number, t.number)
-}
-
-// Gives a point its number, a guess at which is tried before the look-up.
-pub fn weld_point(
-    vertices: &mut [f64],
-    work: &mut [u32],
-    w: Welder,
-    p: Vec3,
-    guess: usize,
-) -> Welded
-    requires { ⌜ Linked w (now vertices) (now work) × Clean p ⌝ }
-    ensures { λ r. ⌜ PointRuns p w (now (vertices .entry)) (now (work .entry)) r (now (vertices .exit)) (now (work .exit)) ⌝ }
-{
-    let room = w.room;
-    if !room {
-        return Welded { number: 0, st: w };
-    }
-    if weld_vertex::is_at(vertices, w.base, w.count, guess, p) {
-        return Welded {
-            number: guess,
-            st: w,
-        };
-    }
-    look_up(vertices, work, w, p, NO_BUCKET)
-}
-
-// Gives a point its number: that of the first equal vertex of this part, or the next one, with which it is written. A point that the
-// rows show to be new goes into no chain yet. Where `bucket` is below the places, it is the bucket of p.
-pub fn look_up(vertices: &mut [f64], work: &mut [u32], w: Welder, p: Vec3, bucket: usize) -> Welded
-    requires { ⌜ Linked w (now vertices) (now work) × Clean p × BucketOrNone (w .places) p bucket ⌝ }
-    ensures { λ r. ⌜ PointRuns p w (now (vertices .entry)) (now (work .entry)) r (now (vertices .exit)) (now (work .exit)) ⌝ }
-{
-    let room = w.room;
-    if !room {
-        return Welded { number: 0, st: w };
-    }
-    let f = weld::foresee(vertices, w, p);
-    let fresh = f.fresh;
-    if !fresh {
-        return search::search(vertices, work, w, p, bucket);
-    }
-    let count = w.count;
-    if count < w.places {
-        mesh_triples::put_vertex(vertices, count, p);
-        return Welded {
-            number: count,
-            st: weld::grown(w, f),
-        };
-    }
-    Welded {
-        number: 0,
-        st: weld::full(w),
-    }
 }
 
 // Writes a triangle unless two of its numbers are equal.

@@ -2,7 +2,7 @@
 use borrow.Author.Needs.{needs}
 use mathlib.Core.Path.{_∙_}
 use native.Mathlib.Omega.{arith}
-use Rattle.weld_triangle.proofs.Point.{few-places, bucket-stays}
+use Rattle.weld_search.proofs.Point.{few-places, bucket-stays}
 use Rattle.weld_triangle.proofs.Triangle.{points-run}
 use Rattle.weld_triangle.proofs.steps.weld_points.Statement.{statement}
 use Rattle.weld_triangle.proofs.steps.weld_points.Tie as tie

@@ -25,8 +25,8 @@ use Rattle.weld_hash.specs.Hash.{Chained, linkedIn, FirstAt, Sought}
 use Rattle.weld_order.specs.Rows.{among}
 use Rattle.weld.specs.Rep.{Held, held, InRow, indexed, Linked, Holds, Over, Rep}
 use Rattle.weld.specs.States.{shut, more, rowSeen, settled, Foresees}
-use Rattle.weld_triangle.specs.declared.Welded.{Welded}
-use Rattle.weld_triangle.specs.Steps.{withVertex, BucketOrNone, PointRuns}
+use Rattle.weld_search.specs.declared.Welded.{Welded}
+use Rattle.weld_search.specs.Search.{withVertex, BucketOrNone, PointRuns}
 use Rattle.weld.proofs.Places.{take-three, take-vertex, flatV-at, places-limit, places-long}
 use Rattle.weld_vertex.proofs.Clean.{clean-self}
 use Rattle.weld_vertex.proofs.Places.{put-at, put-before}

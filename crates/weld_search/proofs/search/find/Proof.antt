@@ -1,13 +1,13 @@
--- `weld_triangle::search::find` meets its contract: a case of proofs/Point.antt for each return. Assumes nothing.
+-- `weld_search::search::find` meets its contract: a case of proofs/Point.antt for each return. Assumes nothing.
 use borrow.Author.Needs.{needs}
 use mathlib.Core.Path.{refl, ap, subst}
 use mathlib.Core.Bool.{Bool, cond}
 use native.Mathlib.Omega.{arith}
 use denote.Ref.{now}
 use Rattle.weld_hash.specs.Hash.{Chained}
-use Rattle.weld_triangle.proofs.Point.{few-places, point-at, point-full, point-new}
-use Rattle.weld_triangle.proofs.search.find.Statement.{statement}
-use Rattle.weld_triangle.proofs.search.find.Tie as tie
+use Rattle.weld_search.proofs.Point.{few-places, point-at, point-full, point-new}
+use Rattle.weld_search.proofs.search.find.Statement.{statement}
+use Rattle.weld_search.proofs.search.find.Tie as tie
 
 bucket-at-requires : tie.Need-bucket-at-requires
 bucket-at-requires c κs =

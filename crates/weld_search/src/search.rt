@@ -6,7 +6,7 @@ ghost use Rattle.weld_vertex.specs.Points.{Clean};
 ghost use Rattle.weld_bucket.specs.Bucket.{bucketOf};
 ghost use Rattle.weld.specs.Rep.{Linked};
 ghost use Rattle.weld.specs.States.{settled};
-ghost use Rattle.weld_triangle.specs.Steps.{BucketOrNone, PointRuns};
+ghost use Rattle.weld_search.specs.Search.{BucketOrNone, PointRuns};
 use crate::Welded;
 use math::Vec3;
 use weld::Welder;

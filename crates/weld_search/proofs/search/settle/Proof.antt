@@ -1,4 +1,4 @@
--- `weld_triangle::search::settle` meets its contract. Assumes nothing.
+-- `weld_search::search::settle` meets its contract. Assumes nothing.
 use borrow.Author.Needs.{needs}
 use borrow.Author.Tests.{not-true, not-false}
 use mathlib.Core.Path.{ap, subst}
@@ -7,9 +7,9 @@ use native.Mathlib.Omega.{arith}
 use denote.Ref.{now}
 use Rattle.weld_hash.specs.Hash.{Chained}
 use Rattle.weld.proofs.Places.{places-limit}
-use Rattle.weld_triangle.proofs.Point.{linked-settled}
-use Rattle.weld_triangle.proofs.search.settle.Statement.{statement}
-use Rattle.weld_triangle.proofs.search.settle.Tie as tie
+use Rattle.weld_search.proofs.Point.{linked-settled}
+use Rattle.weld_search.proofs.search.settle.Statement.{statement}
+use Rattle.weld_search.proofs.search.settle.Tie as tie
 
 index-requires : tie.Need-index-requires
 index-requires c κs =

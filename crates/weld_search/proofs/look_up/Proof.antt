@@ -1,12 +1,12 @@
--- `weld_triangle::steps::look_up` meets its contract: a case of proofs/Point.antt for each return. Assumes nothing.
+-- `weld_search::look_up` meets its contract: a case of proofs/Point.antt for each return. Assumes nothing.
 use borrow.Author.Needs.{needs}
 use borrow.Author.Tests.{not-true, not-false}
 use native.Mathlib.Omega.{arith}
 use denote.Ref.{now}
 use Rattle.weld.proofs.Places.{places-limit}
-use Rattle.weld_triangle.proofs.Point.{point-shut, point-fresh, point-full}
-use Rattle.weld_triangle.proofs.steps.look_up.Statement.{statement}
-use Rattle.weld_triangle.proofs.steps.look_up.Tie as tie
+use Rattle.weld_search.proofs.Point.{point-shut, point-fresh, point-full}
+use Rattle.weld_search.proofs.look_up.Statement.{statement}
+use Rattle.weld_search.proofs.look_up.Tie as tie
 
 returns : tie.Need-returns
 returns c =

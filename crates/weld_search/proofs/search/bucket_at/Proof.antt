@@ -1,6 +1,6 @@
--- `weld_triangle::search::bucket_at` meets its contract. Assumes nothing.
-use Rattle.weld_triangle.proofs.search.bucket_at.Statement.{statement}
-use Rattle.weld_triangle.proofs.search.bucket_at.Tie as tie
+-- `weld_search::search::bucket_at` meets its contract. Assumes nothing.
+use Rattle.weld_search.proofs.search.bucket_at.Statement.{statement}
+use Rattle.weld_search.proofs.search.bucket_at.Tie as tie
 
 returns : tie.Need-returns
 returns c = (c .before .pre .3 (c .if1 .taken), c .if1 .taken)

@@ -1,13 +1,13 @@
--- `weld_triangle::steps::weld_point` meets its contract: a guess that fits is the number that the look-up would give. Assumes nothing.
+-- `weld_search::weld_point` meets its contract: a guess that fits is the number that the look-up would give. Assumes nothing.
 use borrow.Author.Needs.{needs}
 use borrow.Author.Tests.{not-true, not-false}
 use mathlib.Core.Path.{sym, _∙_}
 use denote.Ref.{now}
 use Rattle.weld_vertex.proofs.At.{at-yes}
 use Rattle.weld_hash.proofs.Chains.{first-at}
-use Rattle.weld_triangle.proofs.Point.{few-places, no-bucket, point-shut, point-at}
-use Rattle.weld_triangle.proofs.steps.weld_point.Statement.{statement}
-use Rattle.weld_triangle.proofs.steps.weld_point.Tie as tie
+use Rattle.weld_search.proofs.Point.{few-places, no-bucket, point-shut, point-at}
+use Rattle.weld_search.proofs.weld_point.Statement.{statement}
+use Rattle.weld_search.proofs.weld_point.Tie as tie
 
 returns : tie.Need-returns
 returns c =

@@ -1,12 +1,12 @@
--- `weld_triangle::search::search` meets its contract. Assumes nothing.
+-- `weld_search::search::search` meets its contract. Assumes nothing.
 use borrow.Author.Needs.{needs}
 use mathlib.Core.Path.{refl, subst}
 use denote.Ref.{now}
 use Rattle.weld.specs.declared.Welder.{Welder}
-use Rattle.weld_triangle.specs.Steps.{PointRuns}
-use Rattle.weld_triangle.proofs.Point.{point-settled}
-use Rattle.weld_triangle.proofs.search.search.Statement.{statement}
-use Rattle.weld_triangle.proofs.search.search.Tie as tie
+use Rattle.weld_search.specs.Search.{PointRuns}
+use Rattle.weld_search.proofs.Point.{point-settled}
+use Rattle.weld_search.proofs.search.search.Statement.{statement}
+use Rattle.weld_search.proofs.search.search.Tie as tie
 
 settle-requires : tie.Need-settle-requires
 settle-requires c κs = search needs

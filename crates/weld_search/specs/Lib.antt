@@ -1,0 +1,2 @@
+-- What the contracts of the crate `weld_search` cite.
+pub mod Search
