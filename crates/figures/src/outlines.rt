@@ -6,7 +6,7 @@ use figures_lines::put_clipped;
 fn clean(v: &[f64; 10]) {
     let mut line = [0u8; 160];
     let mut out = [0.0; 10];
-    let k = outline::clean_polygon(v, &mut out);
+    let k = outline_clean::clean_polygon(v, &mut out);
     let n = put_cleaned(&mut line, 0, v, &out, k);
     written::write(&line, n);
 }

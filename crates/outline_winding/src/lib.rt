@@ -8,9 +8,9 @@ ghost use Rattle.outline.specs.Axes.{planeAxes};
 ghost use Rattle.outline.specs.Slices.{Copied, Holds};
 use outline::Axes;
 use outline::Point;
-use outline::clean_polygon;
 use outline::corner;
 use outline::put_corner;
+use outline_clean::clean_polygon;
 
 // What the side from a to b adds to the Rust's sum, which is twice the area.
 fn wedge(a: Point, b: Point) -> f64

@@ -1,14 +1,14 @@
--- `outline::stay` meets its contract. Assumes nothing.
+-- `outline_clean::stay` meets its contract. Assumes nothing.
 use denote.Ref.{now}
 use mathlib.Core.Path.{_≡_, refl, sym, _∙_}
 use native.Mathlib.Omega.{arith}
 use Prim.Native.Nat.{_≤_, _-_}
 use mathlib.Core.Bool.{true, false}
 use Rattle.outline.specs.Corners.{same, point}
 use Rattle.outline.specs.Clean.{stay}
 use Rattle.outline.proofs.Laws.{stay-next, stay-stop, stay-end}
-use Rattle.outline.proofs.stay.Statement.{statement}
-use Rattle.outline.proofs.stay.Tie as tie
+use Rattle.outline_clean.proofs.stay.Statement.{statement}
+use Rattle.outline_clean.proofs.stay.Tie as tie
 
 abbrev Inv-loop : tie.InvT-loop
 Inv-loop out m k₀ k = (k ≤ m) × (stay out k ≡ stay out m)

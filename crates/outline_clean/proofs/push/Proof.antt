@@ -1,9 +1,9 @@
--- `outline::push` meets its contract. Assumes nothing.
+-- `outline_clean::push` meets its contract. Assumes nothing.
 use denote.Ref.{now}
 use Rattle.outline.proofs.Laws.{grew-not, grew}
 use borrow.Author.Needs.{needs}
-use Rattle.outline.proofs.push.Statement.{statement}
-use Rattle.outline.proofs.push.Tie as tie
+use Rattle.outline_clean.proofs.push.Statement.{statement}
+use Rattle.outline_clean.proofs.push.Tie as tie
 
 ends-in-requires : tie.Need-ends-in-requires
 ends-in-requires c κs = search needs

@@ -1,13 +1,13 @@
--- `outline::clean_polygon` meets its contract. Assumes nothing.
+-- `outline_clean::clean_polygon` meets its contract. Assumes nothing.
 use denote.Ref.{now}
 use mathlib.Core.Path.{_≡_}
 use native.Mathlib.Omega.{arith}
 use lib.ListN.{length}
 use Rattle.outline.proofs.Laws.{cleaned-is}
 use Rattle.outline.proofs.Copies.{clean-is}
 use borrow.Author.Needs.{needs}
-use Rattle.outline.proofs.clean_polygon.Statement.{statement}
-use Rattle.outline.proofs.clean_polygon.Tie as tie
+use Rattle.outline_clean.proofs.clean_polygon.Statement.{statement}
+use Rattle.outline_clean.proofs.clean_polygon.Tie as tie
 
 gather-requires : tie.Need-gather-requires
 gather-requires c κs = search needs

@@ -1,4 +1,4 @@
--- `outline::gather` meets its contract. Assumes nothing.
+-- `outline_clean::gather` meets its contract. Assumes nothing.
 use denote.Ref.{now}
 use mathlib.Core.Path.{_≡_, refl, sym, ap, _∙_}
 use native.Mathlib.Omega.{arith}
@@ -6,11 +6,11 @@ use Prim.Native.Nat.{_≤_, _-_, _+_, _*_}
 use mathlib.Core.List.{List, []}
 use lib.ListN.{length, take, drop}
 use lib.Ieee.{Float}
 use Rattle.outline.specs.Corners.{point}
 use Rattle.outline.specs.Clean.{gathered, pushed}
 use Rattle.outline.proofs.Laws.{gathered-next, gathered-end}
-use Rattle.outline.proofs.gather.Statement.{statement}
-use Rattle.outline.proofs.gather.Tie as tie
+use Rattle.outline_clean.proofs.gather.Statement.{statement}
+use Rattle.outline_clean.proofs.gather.Tie as tie
 
 abbrev Inv-loop : tie.InvT-loop
 Inv-loop v out₀ n m₀ i₀ out m i = (i ≤ n) × (m ≤ i) × (length out ≡ length out₀) × (gathered (take (2 * m) out) (drop (2 * i) v) ≡ gathered [] v)

@@ -1,8 +1,8 @@
--- `outline::ends_in` meets its contract. Assumes nothing.
+-- `outline_clean::ends_in` meets its contract. Assumes nothing.
 use Rattle.outline.proofs.Laws.{ends-none, ends-same}
 use borrow.Author.Needs.{needs}
-use Rattle.outline.proofs.ends_in.Statement.{statement}
-use Rattle.outline.proofs.ends_in.Tie as tie
+use Rattle.outline_clean.proofs.ends_in.Statement.{statement}
+use Rattle.outline_clean.proofs.ends_in.Tie as tie
 
 returns : tie.Need-returns
 returns c = ends-none _ _ _ (c .if1 .taken)
