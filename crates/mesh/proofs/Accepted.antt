@@ -17,8 +17,8 @@ use Rattle.slice.specs.Every.{countedPlaces, every}
 use Rattle.refusal.specs.Accepted.{isAccepted}
 use Rattle.mesh_check.specs.State.{State, meshOf, badMesh, notFinite, noRoom, Sound}
 use Rattle.mesh_move_affine.specs.Affine.{FiniteVertices}
-use Rattle.mesh_refusals.specs.Append.{appendRefusal}
-use Rattle.mesh_refusals.specs.Transform.{transformed, transformRefusal}
+use Rattle.mesh_check_append.specs.Append.{appendRefusal}
+use Rattle.mesh_check_transform.specs.Transform.{transformed, transformRefusal}
 use Rattle.slice_law.specs.Bools.{neither}
 use Rattle.mesh_check.proofs.Sound.{not-bad, sound, finite-vertices, places-three, places-limit}
 use Rattle.mesh_check.proofs.Stored.{appended-vertices, appended-triangles}

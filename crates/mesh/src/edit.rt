@@ -23,7 +23,7 @@ pub fn append(
     let k = mesh.triangles;
     let more_n = other.vertices;
     let more_k = other.triangles;
-    let refusal = mesh_refusals::append_refusal(
+    let refusal = mesh_check_append::append_refusal(
         mesh,
         vertices,
         triangles,
@@ -68,7 +68,7 @@ pub fn transform(
         (transformOf ops «op_count» degrees (state mesh (now (vertices .entry)) (now (triangles .entry))))
         r (now (vertices .exit)) (now (triangles .exit)) ⌝ }
 {
-    let refusal = mesh_refusals::transform_refusal(
+    let refusal = mesh_check_transform::transform_refusal(
         mesh,
         vertices,
         triangles,

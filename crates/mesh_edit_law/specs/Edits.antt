@@ -6,8 +6,8 @@ use lib.Dec.{eqb}
 use Rattle.transform.specs.declared.TransformOp.{TransformOp}
 use Rattle.mesh_spec.specs.Mesh.{append, flip}
 use Rattle.mesh_check.specs.State.{State, meshOf, stored, checkOf}
-use Rattle.mesh_refusals.specs.Append.{appendRefusal}
-use Rattle.mesh_refusals.specs.Transform.{transformed, transformRefusal}
+use Rattle.mesh_check_append.specs.Append.{appendRefusal}
+use Rattle.mesh_check_transform.specs.Transform.{transformed, transformRefusal}
 use Rattle.mesh_edit_law.specs.Outcome.{EditOutcome, edited}
 
 -- `append` of the second mesh to the first

@@ -16,7 +16,7 @@ use Rattle.mesh_spec.specs.ClosedExamples.{tetrahedron-closed}
 use Rattle.refusal.specs.declared.Refusal.the-variants.{Accepted, NoRoom}
 use Rattle.refusal.specs.Number.{numberOf}
 use Rattle.mesh_check.specs.State.{recordOf, State, state, meshOf, stored, badMesh, notFinite, noRoom, checkOf}
-use Rattle.mesh_refusals.specs.Append.{appendRefusal}
+use Rattle.mesh_check_append.specs.Append.{appendRefusal}
 use Rattle.mesh_edit_law.specs.Outcome.{edited}
 use Rattle.mesh_edit_law.specs.Edits.{appendOf, flipOf}
 use Rattle.mesh_edit_law.specs.Lists.{Call, Append, Flip, after, Brings, AllBring, kept-by-lists}

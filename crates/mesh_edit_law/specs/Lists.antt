@@ -24,8 +24,8 @@ use Rattle.refusal.specs.Laws.{accepted-is}
 use Rattle.mesh_check.specs.State.{State, meshOf, stored, checkOf}
 use Rattle.mesh_edit_law.specs.Outcome.{EditOutcome, edited}
 use Rattle.mesh_check.specs.StateLaws.{mesh-stored}
-use Rattle.mesh_refusals.specs.Append.{appendRefusal}
-use Rattle.mesh_refusals.specs.Transform.{transformed, transformRefusal}
+use Rattle.mesh_check_append.specs.Append.{appendRefusal}
+use Rattle.mesh_check_transform.specs.Transform.{transformed, transformRefusal}
 use Rattle.mesh_edit_law.specs.Edits.{appendOf, flipOf, transformOf}
 
 -- ---- the statement

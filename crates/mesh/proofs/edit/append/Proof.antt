@@ -9,7 +9,7 @@ use borrow.Author.Tests.{not-true, not-false}
 use Rattle.mesh_spec.specs.Mesh.{append}
 use Rattle.refusal.specs.Accepted.{isAccepted}
 use Rattle.mesh_check.specs.State.{state, meshOf, stored}
-use Rattle.mesh_refusals.specs.Append.{appendRefusal}
+use Rattle.mesh_check_append.specs.Append.{appendRefusal}
 use Rattle.mesh_edit_law.specs.Edits.{appendOf}
 use Rattle.mesh_check.proofs.Stored.{stored-append}
 use Rattle.mesh_edit_law.proofs.Given.{gives-kept, gives-done}

@@ -8,7 +8,7 @@ use Rattle.math_matrix.specs.declared.Mat4.{Mat4}
 use Rattle.mesh_spec.specs.Edits.{transform}
 use Rattle.refusal.specs.Accepted.{isAccepted}
 use Rattle.mesh_check.specs.State.{State, state, meshOf, stored}
-use Rattle.mesh_refusals.specs.Transform.{transformed, transformRefusal}
+use Rattle.mesh_check_transform.specs.Transform.{transformed, transformRefusal}
 use Rattle.mesh_edit_law.specs.Edits.{transformOf}
 use Rattle.mesh_edit_law.proofs.Given.{gives-kept, gives-done}
 use Rattle.mesh.proofs.Accepted.{transform-sound, transform-finite}

@@ -1,11 +1,11 @@
-// Which refusal `transform` answers: 8, 4, 1, 2, and where there are operations 5.
+// Which refusal `transform` answers, in docs/SCOPE.md's order of checks: 8, 4, 1, 2, and where there are operations 5. Nothing is written here.
 ghost use mathlib.Core.Path.{_≡_};
 ghost use Prim.Native.Nat.{_*_};
 ghost use lib.ListN.{take};
 ghost use Rattle.mesh_spec.specs.Slices.{points};
 ghost use Rattle.mesh_move_affine.specs.Affine.{Tested};
 ghost use Rattle.mesh_check.specs.State.{state};
-ghost use Rattle.mesh_refusals.specs.Transform.{moveRefusal, transformRefusal};
+ghost use Rattle.mesh_check_transform.specs.Transform.{moveRefusal, transformRefusal};
 use mesh_check::TriMesh;
 use refusal::Refusal;
 use transform::TransformOp;

@@ -1,7 +1,7 @@
-// Which refusal `append` answers: 8 on either mesh, 1 on either, 7.
+// Which refusal `append` answers, in docs/SCOPE.md's order of checks: 8 on either mesh, 1 on either, 7. Nothing is written here.
 ghost use mathlib.Core.Path.{_≡_};
 ghost use Rattle.mesh_check.specs.State.{state};
-ghost use Rattle.mesh_refusals.specs.Append.{appendRefusal};
+ghost use Rattle.mesh_check_append.specs.Append.{appendRefusal};
 use mesh_check::TriMesh;
 use refusal::Refusal;
 

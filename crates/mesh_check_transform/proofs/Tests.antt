@@ -20,7 +20,7 @@ use Rattle.slice.specs.Every.{every}
 use Rattle.mesh_check.specs.State.{State, meshOf, badMesh, notFinite}
 use Rattle.slice_law.specs.Bools.{not-and, not-both}
 use Rattle.mesh_check.proofs.Tests.{transform-vertices}
-use Rattle.mesh_refusals.specs.Transform.{transformed, moveRefusal, transformRefusal}
+use Rattle.mesh_check_transform.specs.Transform.{transformed, moveRefusal, transformRefusal}
 
 -- ---- 8, 4 and 1
 -- the test of the coordinates and of the operations' numbers

@@ -1,14 +1,14 @@
--- `mesh_refusals::of_append::append_refusal` meets its contract: the checks in their order. Assumes nothing.
+-- `mesh_check_append::append_refusal` meets its contract: the checks in their order. Assumes nothing.
 use denote.Ref.{now}
 use lib.ListN.{length}
 use Rattle.mesh_check.specs.State.{state, badMesh}
 use Rattle.slice_law.specs.Bools.{neither}
 use Rattle.mesh_check.proofs.Sound.{sound, vertices-fit, triangles-fit, places-limit}
-use Rattle.mesh_refusals.proofs.AppendTests.{bad-test, finite-tests, room-test, append-bad, append-not-finite, append-no-room, append-accepted}
+use Rattle.mesh_check_append.proofs.Tests.{bad-test, finite-tests, room-test, append-bad, append-not-finite, append-no-room, append-accepted}
 use borrow.Author.Needs.{needs}
 use native.Mathlib.Omega.{arith}
-use Rattle.mesh_refusals.proofs.of_append.append_refusal.Statement.{statement}
-use Rattle.mesh_refusals.proofs.of_append.append_refusal.Tie as tie
+use Rattle.mesh_check_append.proofs.append_refusal.Statement.{statement}
+use Rattle.mesh_check_append.proofs.append_refusal.Tie as tie
 
 bad-mesh-requires : tie.Need-bad-mesh-requires
 bad-mesh-requires c κs = search needs

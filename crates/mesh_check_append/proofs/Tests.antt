@@ -11,7 +11,7 @@ use Rattle.slice.specs.Every.{countedPlaces, every}
 use Rattle.mesh_check.specs.State.{State, meshOf, badMesh, notFinite, noRoom, Sound}
 use Rattle.mesh_check.proofs.Stored.{appended-vertices, appended-triangles}
 use Rattle.slice_law.specs.Bools.{not-and, not-both}
-use Rattle.mesh_refusals.specs.Append.{appendRefusal}
+use Rattle.mesh_check_append.specs.Append.{appendRefusal}
 
 -- ---- the tests of either mesh
 pub bad-test : (s o : State) {x y b : Bool} → x ≡ badMesh s → y ≡ badMesh o → (x || y) ≡ b → (badMesh s || badMesh o) ≡ b

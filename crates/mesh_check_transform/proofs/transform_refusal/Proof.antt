@@ -1,4 +1,4 @@
--- `mesh_refusals::of_transform::transform_refusal` meets its contract: the checks in their order. Assumes nothing.
+-- `mesh_check_transform::transform_refusal` meets its contract: the checks in their order. Assumes nothing.
 use denote.Ref.{now}
 use mathlib.Core.Path.{_≡_, sym, _∙_}
 use mathlib.Core.Bool.{false, not}
@@ -8,11 +8,11 @@ use Rattle.transform.specs.Checks.{opsFinite}
 use Rattle.mesh_check.specs.State.{state, badMesh, notFinite}
 use Rattle.slice_law.specs.Bools.{neither}
 use Rattle.mesh_check.proofs.Sound.{sound, tested}
-use Rattle.mesh_refusals.proofs.TransformTests.{finite-tests, transform-bad, transform-long, transform-not-finite, transform-rest}
+use Rattle.mesh_check_transform.proofs.Tests.{finite-tests, transform-bad, transform-long, transform-not-finite, transform-rest}
 use borrow.Author.Needs.{needs}
 use native.Mathlib.Omega.{arith}
-use Rattle.mesh_refusals.proofs.of_transform.transform_refusal.Statement.{statement}
-use Rattle.mesh_refusals.proofs.of_transform.transform_refusal.Tie as tie
+use Rattle.mesh_check_transform.proofs.transform_refusal.Statement.{statement}
+use Rattle.mesh_check_transform.proofs.transform_refusal.Tie as tie
 
 bad-mesh-requires : tie.Need-bad-mesh-requires
 bad-mesh-requires c κs = search needs

@@ -1,4 +1,4 @@
--- `mesh_refusals::of_transform::move_refusal` meets its contract: the checks in their order. Assumes nothing.
+-- `mesh_check_transform::move_refusal` meets its contract: the checks in their order. Assumes nothing.
 use denote.Ref.{now}
 use mathlib.Core.Path.{sym, _∙_}
 use mathlib.Core.Bool.{true, false}
@@ -6,10 +6,10 @@ use Prim.Native.Nat.{_*_}
 use lib.ListN.{take}
 use borrow.Author.Tests.{not-true, not-false, eq-eqb, ne-eqb}
 use Rattle.mesh_spec.specs.Slices.{points}
-use Rattle.mesh_refusals.proofs.TransformTests.{move-angle, move-none, move-points}
+use Rattle.mesh_check_transform.proofs.Tests.{move-angle, move-none, move-points}
 use borrow.Author.Needs.{needs}
-use Rattle.mesh_refusals.proofs.of_transform.move_refusal.Statement.{statement}
-use Rattle.mesh_refusals.proofs.of_transform.move_refusal.Tie as tie
+use Rattle.mesh_check_transform.proofs.move_refusal.Statement.{statement}
+use Rattle.mesh_check_transform.proofs.move_refusal.Tie as tie
 
 ops-angles-within-requires : tie.Need-ops-angles-within-requires
 ops-angles-within-requires c κs = search needs
