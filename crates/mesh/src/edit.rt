@@ -1,10 +1,9 @@
-// The edits of a mesh.
+// Appending a mesh, and reversing one.
 ghost use Rattle.mesh_check.specs.State.{state};
 ghost use Rattle.mesh_edit_law.specs.Outcome.{GivesEdit};
-ghost use Rattle.mesh_edit_law.specs.Edits.{appendOf, flipOf, transformOf};
+ghost use Rattle.mesh_edit_law.specs.Edits.{appendOf, flipOf};
 use mesh_check::TriMesh;
 use mesh_edit_law::Edited;
-use transform::TransformOp;
 
 // Appends the other mesh, which lies in other slices: its vertices follow, and its numbers go up by the vertex count.
 pub fn append(
@@ -52,37 +51,5 @@ pub fn flip(mesh: TriMesh, vertices: &[f64], triangles: &mut [u32]) -> Edited
         return Edited { refusal, mesh };
     }
     mesh_write::turn_all(triangles, k);
-    Edited { refusal, mesh }
-}
-
-// Moves the vertices by the first op_count operations, whose angles are in degrees or in radians. A mirroring flips the triangles.
-pub fn transform(
-    mesh: TriMesh,
-    vertices: &mut [f64],
-    triangles: &mut [u32],
-    ops: [TransformOp; 16],
-    op_count: usize,
-    degrees: bool,
-) -> Edited
-    ensures { λ r. ⌜ GivesEdit
-        (transformOf ops «op_count» degrees (state mesh (now (vertices .entry)) (now (triangles .entry))))
-        r (now (vertices .exit)) (now (triangles .exit)) ⌝ }
-{
-    let refusal = mesh_check_transform::transform_refusal(
-        mesh,
-        vertices,
-        triangles,
-        ops,
-        op_count,
-        degrees,
-    );
-    if !refusal::is_accepted(refusal) {
-        return Edited { refusal, mesh };
-    }
-    if op_count == 0 {
-        return Edited { refusal, mesh };
-    }
-    let a = transform::fold(ops, op_count, degrees);
-    mesh_move::move_mesh(mesh, vertices, triangles, a, true);
     Edited { refusal, mesh }
 }

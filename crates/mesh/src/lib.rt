@@ -4,7 +4,6 @@ mod edit;
 
 pub use edit::append;
 pub use edit::flip;
-pub use edit::transform;
 pub use mesh_check::TriMesh;
 pub use mesh_edit_law::Edited;
 pub use mesh_measures::Boxed;
@@ -13,3 +12,4 @@ pub use mesh_measures::area;
 pub use mesh_measures::bounding_box;
 pub use mesh_measures::enclosed_volume;
 pub use mesh_measures::signed_volume;
+pub use mesh_transform::transform;

@@ -1,4 +1,4 @@
--- `mesh::edit::transform` meets its contract: the refusal, or the mesh moved. Assumes nothing.
+-- `mesh_transform::transform` meets its contract: the refusal, or the mesh moved. Assumes nothing.
 use denote.Ref.{now}
 use mathlib.Core.Path.{_≡_, refl, sym, ap, _∙_}
 use mathlib.Core.Bool.{true, false, cond}
@@ -11,10 +11,10 @@ use Rattle.mesh_check.specs.State.{State, state, meshOf, stored}
 use Rattle.mesh_check_transform.specs.Transform.{transformed, transformRefusal}
 use Rattle.mesh_edit_law.specs.Edits.{transformOf}
 use Rattle.mesh_edit_law.proofs.Given.{gives-kept, gives-done}
-use Rattle.mesh.proofs.Accepted.{transform-sound, transform-finite}
+use Rattle.mesh_transform.proofs.Accepted.{transform-sound, transform-finite}
 use borrow.Author.Needs.{needs}
-use Rattle.mesh.proofs.edit.transform.Statement.{statement}
-use Rattle.mesh.proofs.edit.transform.Tie as tie
+use Rattle.mesh_transform.proofs.transform.Statement.{statement}
+use Rattle.mesh_transform.proofs.transform.Tie as tie
 
 transform-refusal-requires : tie.Need-transform-refusal-requires
 transform-refusal-requires c κs = search needs
