@@ -5,12 +5,10 @@ use mathlib.Core.List.{[], _∷_}
 use lib.ListN.{getD}
 use lib.Ieee.{Float, nan, binary64, add, sub, mul, div, ne}
 use Rattle.ieee.specs.Same.{plusZero}
-use Rattle.trig.specs.declared.Radians.{Radians}
-use Rattle.trig.specs.Trig.{sinCos}
 use Rattle.math.specs.declared.Vec3.{Vec3}
 use Rattle.math_matrix.specs.declared.Row.{Row}
 use Rattle.math_matrix.specs.declared.Mat4.{Mat4}
-use Rattle.math.specs.Vec.{one, new, normalized}
+use Rattle.math.specs.Vec.{one, new}
 
 -- `m[i][j]`: the entry in row i and column j, both from 0 to 3. The array holds row after row, and the NaN, of a place past its end, is never met.
 abbrev pub entry : Mat4 → ℕ → ℕ → Float
@@ -64,39 +62,6 @@ scaling s =
     (newRow plusZero (s .y) plusZero plusZero)
     (newRow plusZero plusZero (s .z) plusZero)
     lastRow
-
--- (t * u) * v
-abbrev times : Float → Float → Float → Float
-times t u v = mul binary64 (mul binary64 t u) v
-
--- `Mat4::rotation` from its line `let t` on: a is `normalized` of the axis, s and c are the sine and the cosine
-unfoldable pub turn : Vec3 → Float → Float → Mat4
-turn a s c =
-    let t = sub binary64 one c in
-    let x = a .x in
-    let y = a .y in
-    let z = a .z in
-    fromRows
-    (newRow
-    (add binary64 (times t x x) c)
-    (sub binary64 (times t x y) (mul binary64 s z))
-    (add binary64 (times t x z) (mul binary64 s y))
-    plusZero)
-    (newRow
-    (add binary64 (times t x y) (mul binary64 s z))
-    (add binary64 (times t y y) c)
-    (sub binary64 (times t y z) (mul binary64 s x))
-    plusZero)
-    (newRow
-    (sub binary64 (times t x z) (mul binary64 s y))
-    (add binary64 (times t y z) (mul binary64 s x))
-    (add binary64 (times t z z) c)
-    plusZero)
-    lastRow
-
--- `Mat4::rotation`
-unfoldable pub rotation : Vec3 → Radians → Mat4
-rotation axis angle = turn (normalized axis) (sinCos (angle .0) .sin) (sinCos (angle .0) .cos)
 
 -- one entry of `Mul for Mat4`: the sum of `self[i][k] * o[k][j]` for k from 0 to 3, starting at +0.0; r is row i of `self`, and p, q, s, t are column j of `o`
 unfoldable pub productEntry : Row → Float → Float → Float → Float → Float

@@ -3,7 +3,6 @@ ghost use mathlib.Core.Path.{_≡_};
 ghost use Prim.Native.Nat.{_<_};
 ghost use Rattle.math_matrix.specs.Mat as Mat;
 use math::Vec3;
-use trig::Radians;
 
 // A row of a matrix: what it takes of x, y, z and of w, which is 1 for a point.
 pub struct Row {
@@ -18,7 +17,7 @@ pub struct Mat4 {
     pub m: [f64; 16],
 }
 
-fn new_row(x: f64, y: f64, z: f64, w: f64) -> Row
+pub fn new_row(x: f64, y: f64, z: f64, w: f64) -> Row
     ensures { λ r. ⌜ r ≡ Mat.newRow x y z w ⌝ }
 {
     Row { x, y, z, w }
@@ -96,28 +95,4 @@ pub fn scaling(s: Vec3) -> Mat4
         new_row(0.0, 0.0, s.z, 0.0),
         new_row(0.0, 0.0, 0.0, 1.0),
     )
-}
-
-// The rotation about a, which is the axis divided by its length, or zero, by the angle whose sine is s and whose cosine is c.
-fn turn(a: Vec3, s: f64, c: f64) -> Mat4
-    ensures { λ r. ⌜ r ≡ Mat.turn a s c ⌝ }
-{
-    let t = 1.0 - c;
-    let x = a.x;
-    let y = a.y;
-    let z = a.z;
-    from_rows(
-        new_row(t * x * x + c, t * x * y - s * z, t * x * z + s * y, 0.0),
-        new_row(t * x * y + s * z, t * y * y + c, t * y * z - s * x, 0.0),
-        new_row(t * x * z - s * y, t * y * z + s * x, t * z * z + c, 0.0),
-        new_row(0.0, 0.0, 0.0, 1.0),
-    )
-}
-
-// The right-handed rotation about an axis through the origin.
-pub fn rotation(axis: Vec3, angle: Radians) -> Mat4
-    ensures { λ r. ⌜ r ≡ Mat.rotation axis angle ⌝ }
-{
-    let p = trig::sin_cos(angle.0);
-    turn(math_norm::normalized(axis), p.sin, p.cos)
 }

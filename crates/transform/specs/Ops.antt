@@ -7,7 +7,8 @@ use lib.Ieee.{Float, binary64, ofBits}
 use Rattle.math.specs.declared.Vec3.{Vec3}
 use Rattle.math_matrix.specs.declared.Mat4.{Mat4}
 use Rattle.math.specs.Vec.{new, unit}
-use Rattle.math_matrix.specs.Mat.{identity, translation, scaling, rotation, fromRows, product}
+use Rattle.math_matrix.specs.Mat.{identity, translation, scaling, fromRows, product}
+use Rattle.math_rotation.specs.Rotation.{rotation}
 use Rattle.transform.specs.declared.TransformOp.{TransformOp}
 use Rattle.transform.specs.declared.TransformOp.the-variants.{Translate, RotateOrigin, RotateX, RotateY, RotateZ, Scale, Scale3, Matrix}
 use Rattle.transform.specs.Angle.{angleRadians}

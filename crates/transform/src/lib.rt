@@ -38,7 +38,7 @@ pub fn angle_radians(a: f64, degrees: bool) -> Radians
 fn rotation(axis: Vec3, a: f64, degrees: bool) -> Mat4
     ensures { λ m. ⌜ m ≡ Ops.rotationBy degrees axis a ⌝ }
 {
-    math_matrix::rotation(axis, angle_radians(a, degrees))
+    math_rotation::rotation(axis, angle_radians(a, degrees))
 }
 
 // The matrix of an operation.

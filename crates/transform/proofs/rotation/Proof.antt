@@ -1,6 +1,6 @@
 -- `transform::rotation` meets its contract. Assumes nothing.
 use mathlib.Core.Path.{ap, _∙_}
-use Rattle.math_matrix.specs.Mat.{rotation as turn}
+use Rattle.math_rotation.specs.Rotation.{rotation as turn}
 use borrow.Author.Needs.{needs}
 use Rattle.transform.specs.Ops.{rotationBy}
 use Rattle.transform.proofs.rotation.Statement.{statement}

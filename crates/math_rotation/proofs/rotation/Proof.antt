@@ -1,9 +1,9 @@
--- `math_matrix::rotation` meets its contract. Assumes nothing.
+-- `math_rotation::rotation` meets its contract. Assumes nothing.
 use mathlib.Core.Path.{_∙_}
 use borrow.Author.Needs.{needs}
-use Rattle.math_matrix.specs.Mat.{turn, rotation}
-use Rattle.math_matrix.proofs.rotation.Statement.{statement}
-use Rattle.math_matrix.proofs.rotation.Tie as tie
+use Rattle.math_rotation.specs.Rotation.{turn, rotation}
+use Rattle.math_rotation.proofs.rotation.Statement.{statement}
+use Rattle.math_rotation.proofs.rotation.Tie as tie
 
 sin-cos-requires : tie.Need-sin-cos-requires
 sin-cos-requires c κs = search needs

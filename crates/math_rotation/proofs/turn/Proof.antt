@@ -1,10 +1,10 @@
--- `math_matrix::turn` meets its contract. Assumes nothing.
+-- `math_rotation::turn` meets its contract. Assumes nothing.
 use borrow.Author.Needs.{needs}
 use lib.Ieee.{ofBits}
-use Rattle.math_matrix.specs.Mat.{turn}
+use Rattle.math_rotation.specs.Rotation.{turn}
 use Rattle.math_matrix.specs.MatLaws.{made}
-use Rattle.math_matrix.proofs.turn.Statement.{statement}
-use Rattle.math_matrix.proofs.turn.Tie as tie
+use Rattle.math_rotation.proofs.turn.Statement.{statement}
+use Rattle.math_rotation.proofs.turn.Tie as tie
 
 new-row-requires : tie.Need-new-row-requires
 new-row-requires c κs = search needs

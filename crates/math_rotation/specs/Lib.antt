@@ -1,0 +1,2 @@
+-- The definitions that the contracts of `math_rotation` cite.
+pub mod Rotation
