@@ -7,7 +7,7 @@ use Prim.Native.Nat.{ℕ, zero, suc, _+_, _%_, _≤_, _<_}
 use native.Mathlib.Nat.{zero-mod, mod-self}
 use native.Mathlib.Omega.{arith}
 use native.Mathlib.Numerals.{add-one}
-use Rattle.mesh_balance_spec.specs.Soup.{Tri, Weight, rev, round, sum, Balanced, flip, mapTri, sum-append, sum-flip, sum-map}
+use Rattle.mesh_balance_spec.specs.Soup.{Tri, Weight, rev, round, sum, Balanced, flipTri, mapTri, sum-append, sum-flip, sum-map}
 
 module _ {P : Type 0} where
   -- `Soup::quad` of src/tessellate.rs
@@ -44,7 +44,7 @@ module _ {P : Type 0} where
   pub bounds-append : (xs ys : List (Tri P)) (F G : Weight P → ℕ) → Bounds xs F → Bounds ys G → Bounds (xs ++ ys) (λ w. F w + G w)
   bounds-append xs ys F G p q w = omega (arith, sum-append w xs ys, sum-append (rev w) xs ys, p w, q w)
 
-  pub bounds-flip : (xs : List (Tri P)) (F : Weight P → ℕ) → Bounds xs F → Bounds (map flip xs) (λ w. F (rev w))
+  pub bounds-flip : (xs : List (Tri P)) (F : Weight P → ℕ) → Bounds xs F → Bounds (map flipTri xs) (λ w. F (rev w))
   bounds-flip xs F p w = omega (arith, sum-flip w xs, sum-flip (rev w) xs, p w)
 
   pub bounds-balanced : (xs : List (Tri P)) (F : Weight P → ℕ) → ((w : Weight P) → F w ≡ F (rev w)) → Bounds xs F → Balanced xs

@@ -6,14 +6,14 @@ use Prim.Native.Nat.{ℕ, zero, suc, _+_, _%_, _≤_, _<_}
 use native.Mathlib.Nat.{zero-mod, mod-self, mod-eq-of-lt}
 use native.Mathlib.Omega.{arith}
 use native.Mathlib.Numerals.{add-one}
-use Rattle.mesh_balance_spec.specs.Soup.{Tri, Weight, rev, round, sum, Balanced, flip, mapTri, sum-append, sum-flip, sum-map}
+use Rattle.mesh_balance_spec.specs.Soup.{Tri, Weight, rev, round, sum, Balanced, flipTri, mapTri, sum-append, sum-flip, sum-map}
 use Rattle.mesh_balance_spec.specs.Grid.{quad, upto, upto-cong, path, path-cong, strip-law, Bounds}
 
 module _ {C P : Type 0} where
   -- the cap at lo, the cap turned at hi, and a quad over each edge of the ring r
   abbrev pub prism : (ℕ → C) → ℕ → List (Tri C) → (C → P) → (C → P) → List (Tri P)
   prism r n caps lo hi =
-      map (mapTri lo) caps ++ map flip (map (mapTri hi) caps)
+      map (mapTri lo) caps ++ map flipTri (map (mapTri hi) caps)
       ++ upto n (λ i. quad (lo (r i)) (hi (r i)) (hi (r (suc i))) (lo (r (suc i))))
 
   -- a path through mapped corners
@@ -24,7 +24,7 @@ module _ {C P : Type 0} where
   pub prism-balanced : (r : ℕ → C) (n : ℕ) (caps : List (Tri C)) (lo hi : C → P) → r n ≡ r 0 → Bounds caps (λ w. path w r n) → Balanced (prism r n caps lo hi)
   prism-balanced r n caps lo hi e b w =
       let bottom = map (mapTri lo) caps in
-      let top = map flip (map (mapTri hi) caps) in
+      let top = map flipTri (map (mapTri hi) caps) in
       let sides = upto n (λ i. quad (lo (r i)) (hi (r i)) (hi (r (suc i))) (lo (r (suc i)))) in
       omega (
         arith,
@@ -63,7 +63,7 @@ module _ {P : Type 0} where
   -- over the corners 0 .. m
   abbrev pub prismOf : ℕ → List (Tri ℕ) → (ℕ → P) → (ℕ → P) → List (Tri P)
   prismOf m caps lo hi =
-      map (mapTri lo) caps ++ map flip (map (mapTri hi) caps)
+      map (mapTri lo) caps ++ map flipTri (map (mapTri hi) caps)
       ++ upto (suc m) (λ i. quad (lo i) (hi i) (hi ((i + 1) % suc m)) (lo ((i + 1) % suc m)))
 
   same-sides : (m : ℕ) (lo hi : ℕ → P) →

@@ -6,7 +6,7 @@ use native.Mathlib.Omega.{arith}
 use lib.ListN.{replicate}
 use Rattle.ieee.specs.Number.{plusZero}
 use Rattle.slice.specs.Every.{countedPlaces, every}
-use Rattle.mesh_balance_spec.specs.Soup.{flip as flipTri}
+use Rattle.mesh_balance_spec.specs.Soup.{flipTri}
 use Rattle.mesh_balance_spec.specs.Buffer.{flat}
 use Rattle.mesh_balance_spec.specs.Examples.{tetrahedron}
 use Rattle.mesh_spec.specs.Mesh.{append, flip}

@@ -6,7 +6,7 @@ use Prim.Native.Nat.{ℕ}
 use lib.Ieee.{Float, binary64, lt, ofBits}
 use Rattle.math_matrix.specs.declared.Mat4.{Mat4}
 use Rattle.math_matrix.specs.Mat.{determinant}
-use Rattle.mesh_balance_spec.specs.Soup.{flip as flipTri}
+use Rattle.mesh_balance_spec.specs.Soup.{flipTri}
 use Rattle.mesh_spec.specs.Mesh.{Mesh}
 use Rattle.mesh_spec.specs.Edits.{transform}
 use Rattle.mesh_triples.specs.Triples.{eachTo, movedTriple}

@@ -12,7 +12,7 @@ use Rattle.slice_law.specs.Bools.{and-false}
 use Rattle.math_matrix.specs.declared.Mat4.{Mat4}
 use Rattle.math_matrix.specs.Mat.{determinant}
 use Rattle.mesh_balance_spec.specs.Soup.{Tri, Weight, sum, mapTri, sum-append, sum-map, sum-flip}
-use Rattle.mesh_balance_spec.specs.Soup.{flip as flipTri}
+use Rattle.mesh_balance_spec.specs.Soup.{flipTri}
 use Rattle.mesh_balance_spec.specs.Count.{edges, uses, here, uses-sum, here-rev, EdgesBalance}
 use Rattle.mesh_spec.specs.Mesh.{Mesh, append, flip}
 use Rattle.mesh_spec.specs.Edits.{moved, transform}

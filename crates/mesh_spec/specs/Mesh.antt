@@ -7,7 +7,7 @@ use lib.Dec.{eqb}
 use lib.Ieee.{Float, binary64, add, eq, ofBits}
 use Rattle.math.specs.declared.Vec3.{Vec3}
 use Rattle.math.specs.Vec.{vFinite}
-use Rattle.mesh_balance_spec.specs.Soup.{Tri, mapTri}
+use Rattle.mesh_balance_spec.specs.Soup.{Tri, mapTri, flipTri}
 
 -- struct TriMesh: the vertices, and the triangles as triples of vertex numbers
 pub record Mesh : Type 0 where
@@ -83,7 +83,7 @@ append m o = record {
 
 -- TriMesh::flip: `t.swap(1, 2)` for every triangle
 unfoldable pub flip : Mesh → Mesh
-flip m = record { vertices = m .vertices; triangles = map (λ t. (t .0, t .2, t .1)) (m .triangles) }
+flip m = record { vertices = m .vertices; triangles = map flipTri (m .triangles) }
 
 -- `out.append(&t.finish())` for each part in turn
 unfoldable pub appendParts : Mesh → List (List (Tri Vec3)) → Mesh

@@ -4,7 +4,7 @@ ghost use mathlib.Core.List.{map};
 ghost use Prim.Native.Nat.{ℕ, _+_, _*_, _^_, _≤_, _<_};
 ghost use lib.ListN.{length, take, getD};
 ghost use lib.Seq.{paste};
-ghost use Rattle.mesh_balance_spec.specs.Soup.{flip as flipTri};
+ghost use Rattle.mesh_balance_spec.specs.Soup.{flipTri};
 ghost use Rattle.mesh_triples.specs.Triples.{eachTo, tripleAt, putTriple};
 
 // Writes the first count floats of from at place at.

@@ -8,7 +8,7 @@ use Rattle.shape.specs.declared.Shape.the-variants.{Box, MultiBox, Sphere, Sphe
 use Rattle.shape.specs.declared.TessellationOptions.{TessellationOptions}
 
 -- docs/SCOPE.md's bounds on segments and rings, which the local arrays rest on
-pub record Bounded (o : TessellationOptions) : Type 0 where
+pub record FewSegments (o : TessellationOptions) : Type 0 where
   pub segments : o .segments ≤ 1024
   pub rings : o .«sphere_rings» ≤ 1024
 

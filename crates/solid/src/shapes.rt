@@ -3,7 +3,7 @@ ghost use mathlib.Core.Path.{_≡_};
 ghost use Rattle.weld.specs.Rep.{held, Ready};
 ghost use Rattle.weld.specs.Parts.{PartsRun};
 ghost use Rattle.solid_spec.specs.Solid.{partsOf};
-ghost use Rattle.solid.specs.Limits.{Bounded, Listed};
+ghost use Rattle.solid.specs.Limits.{FewSegments, Listed};
 use crate::outlines;
 use crate::single;
 use crate::tubes;
@@ -23,7 +23,7 @@ pub fn weld_shape(
     options: TessellationOptions,
 ) -> Welder
     requires { ⌜ Ready (held w (now vertices) (now triangles) (now work)) ⌝ }
-    requires { ⌜ Bounded options × Listed shape (now list) ⌝ }
+    requires { ⌜ FewSegments options × Listed shape (now list) ⌝ }
     ensures { λ k. ⌜ PartsRun (partsOf cylindrical shape (now (list .entry)) options)
         (held w (now (vertices .entry)) (now (triangles .entry)) (now (work .entry)))
         (held k (now (vertices .exit)) (now (triangles .exit)) (now (work .exit))) ⌝ }

@@ -1,6 +1,6 @@
 // The cases Box, Sphere and SphericalShell of tessellate in src/tessellate.rs.
 ghost use Rattle.weld.specs.Rep.{held, Ready, Runs};
-ghost use Rattle.solid.specs.Limits.{Bounded};
+ghost use Rattle.solid.specs.Limits.{FewSegments};
 ghost use Rattle.solid.specs.Soups.{solidSoup};
 use shape::Shape;
 use shape::TessellationOptions;
@@ -17,7 +17,7 @@ pub fn weld_solid(
     options: TessellationOptions,
 ) -> Welder
     requires { ⌜ Ready (held w (now vertices) (now triangles) (now work)) ⌝ }
-    requires { ⌜ Bounded options ⌝ }
+    requires { ⌜ FewSegments options ⌝ }
     ensures { λ k. ⌜ Runs (solidSoup cylindrical shape options)
         (held w (now (vertices .entry)) (now (triangles .entry)) (now (work .entry)))
         (held k (now (vertices .exit)) (now (triangles .exit)) (now (work .exit))) ⌝ }

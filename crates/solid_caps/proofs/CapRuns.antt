@@ -8,7 +8,7 @@ use lib.ListN.{length, getD, take, drop}
 use lib.Seq.{take-append-seam}
 use lib.Ieee.{Float}
 use Rattle.math.specs.declared.Vec3.{Vec3}
-use Rattle.mesh_balance_spec.specs.Soup.{Tri, mapTri, flip}
+use Rattle.mesh_balance_spec.specs.Soup.{Tri, mapTri, flipTri}
 use Rattle.mesh_balance_spec.specs.Buffer.{tris}
 use Rattle.weld.specs.Rep.{Held, Ready, Runs}
 use Rattle.weld.specs.Runs.{runs-none, runs-then, runs-as}

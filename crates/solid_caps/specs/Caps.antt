@@ -3,7 +3,7 @@ use mathlib.Core.Bool.{Bool, true, false}
 use mathlib.Core.List.{List, [], _∷_, _++_}
 use Prim.Native.Nat.{ℕ}
 use lib.Ieee.{Float}
-use Rattle.mesh_balance_spec.specs.Soup.{Tri, mapTri, flip}
+use Rattle.mesh_balance_spec.specs.Soup.{Tri, mapTri, flipTri}
 use Rattle.surface_spec.specs.declared.Surface.{Surface}
 use Rattle.surface.specs.Within.{Within}
 use Rattle.surface.specs.Turns.{Tabled}
@@ -15,7 +15,7 @@ CapsWithin p s rows cols j = (i : ℕ) → Within p s i j × Tabled s rows cols 
 module _ {P : Type 0} where
   -- a triangle at the one end, and where both says so turned round at the other
   abbrev pub capOf : Bool → (ℕ → P) → (ℕ → P) → Tri ℕ → List (Tri P)
-  capOf true near far t = mapTri near t ∷ flip (mapTri far t) ∷ []
+  capOf true near far t = mapTri near t ∷ flipTri (mapTri far t) ∷ []
   capOf false near far t = mapTri near t ∷ []
 
   -- the same for each triangle in turn

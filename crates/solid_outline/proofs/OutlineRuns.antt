@@ -12,7 +12,7 @@ use lib.Ieee.{Float, binary64, add, sub, ne, lt, ofBits}
 use Rattle.ieee.specs.Number.{absolute, tau}
 use Rattle.trig.specs.Trig.{sinCos}
 use Rattle.math.specs.declared.Vec3.{Vec3}
-use Rattle.mesh_balance_spec.specs.Soup.{Tri, mapTri, flip}
+use Rattle.mesh_balance_spec.specs.Soup.{Tri, mapTri, flipTri}
 use Rattle.outline.specs.Corners.{point}
 use Rattle.outline.specs.declared.Point.{Point}
 use Rattle.outline.specs.declared.Axes.{Axes}
@@ -99,9 +99,9 @@ module _ (n : ℕ) (f f' g g' : ℕ → Vec3) (p : (i : ℕ) → i < n → f i �
   both-cong : (ts : List (Tri ℕ)) → BelowAll n ts → capsOf true f g ts ≡ caps f' g' ts
   both-cong [] h = refl
   both-cong (t ∷ ts) h =
-      ap (λ (x : Tri Vec3). x ∷ flip (mapTri g t) ∷ capsOf true f g ts) (tri-cong f f' p t (h .0) (h .1) (h .2))
-      ∙ ap (λ (x : Tri Vec3). mapTri f' t ∷ flip x ∷ capsOf true f g ts) (tri-cong g g' q t (h .0) (h .1) (h .2))
-      ∙ ap (λ (r : Soup). mapTri f' t ∷ flip (mapTri g' t) ∷ r) (both-cong ts (h .3))
+      ap (λ (x : Tri Vec3). x ∷ flipTri (mapTri g t) ∷ capsOf true f g ts) (tri-cong f f' p t (h .0) (h .1) (h .2))
+      ∙ ap (λ (x : Tri Vec3). mapTri f' t ∷ flipTri x ∷ capsOf true f g ts) (tri-cong g g' q t (h .0) (h .1) (h .2))
+      ∙ ap (λ (r : Soup). mapTri f' t ∷ flipTri (mapTri g' t) ∷ r) (both-cong ts (h .3))
 
   one-cong : (ts : List (Tri ℕ)) → BelowAll n ts → capsOf false f g ts ≡ map (mapTri f') ts
   one-cong [] h = refl

@@ -21,9 +21,9 @@ use Rattle.solid_spec.proofs.Unequal.{ends-unequal, minimum-fits}
 use Rattle.shape_arc.specs.ArcLaws.{arcSegments-some, arcSegments-few}
 use Rattle.solid_spec.proofs.ParamBoxBalanced.{boxed, six-faces, four-faces}
 use Rattle.solid_spec.proofs.Maps.{asIs-respects, asIs-shows, cylindrical-respects, cylindrical-shows}
-use Rattle.solid_spec.specs.Fits.{Bounded}
+use Rattle.solid_spec.specs.Fits.{UnequalEnds}
 
-module _ (a b : Vec3) (g : Bounded a b) where
+module _ (a b : Vec3) (g : UnequalEnds a b) where
   apart-x : eq (vMax a b .x) (vMin a b .x) ≡ false
   unfolding vMin vMax
   apart-x = ends-unequal binary64 (a .x) (b .x) (g .fits-a .x) (g .fits-b .x) (g .finite-a .x) (g .finite-b .x) (g .unequal-x)
@@ -71,10 +71,10 @@ module _ (a b : Vec3) (g : Bounded a b) where
   boxShape-closes false segments few = cartesian-closes
 
 -- `box_shape`: each box of a multi-box, and the solid Box
-pub boxShape-balanced : (a b : Vec3) (cylindrical : Bool) (segments : ℕ) → segments ≤ 1024 → Bounded a b
+pub boxShape-balanced : (a b : Vec3) (cylindrical : Bool) (segments : ℕ) → segments ≤ 1024 → UnequalEnds a b
     → everyFinite (boxShape a b cylindrical segments) ≡ true → Balanced (map (mapTri plusZeroV) (boxShape a b cylindrical segments))
 boxShape-balanced a b cylindrical segments few g h = boxShape-closes a b g cylindrical segments few (sound-of (boxShape a b cylindrical segments) h)
 
-pub boxSoup-balanced : (cylindrical : Bool) (start stop : Vec3) (segments : ℕ) → segments ≤ 1024 → Bounded start stop
+pub boxSoup-balanced : (cylindrical : Bool) (start stop : Vec3) (segments : ℕ) → segments ≤ 1024 → UnequalEnds start stop
     → everyFinite (boxSoup cylindrical start stop segments) ≡ true → Balanced (map (mapTri plusZeroV) (boxSoup cylindrical start stop segments))
 boxSoup-balanced cylindrical start stop segments = boxShape-balanced start stop cylindrical segments

@@ -22,7 +22,7 @@ use Rattle.shape_arc.specs.Arc.{countedSpan, arcShare, arcSegments, fullSpan, i
 use Rattle.solid_spec.specs.Boxes.{turnedTo, cylindricalBox, boxShape, boxSoup}
 use Rattle.solid_spec.proofs.SphereBalanced.{sphereSoup-balanced}
 use Rattle.solid_spec.proofs.BoxBalanced.{boxSoup-balanced}
-use Rattle.solid_spec.specs.Fits.{FitsV, Bounded}
+use Rattle.solid_spec.specs.Fits.{FitsV, UnequalEnds}
 
 -- (P) a sphere of radius 0: nothing
 pub no-sphere : (c : Vec3) (segments rings : ℕ) → sphereSoup false c plusZero segments rings ≡ []
@@ -70,7 +70,7 @@ pub block-finite : everyFinite block ≡ true
 unfolding boxShape paramBox faces face grid coord vMin vMax minimum maximum isNan lt eq everyFinite vFinite add sub mul div ofInt
 block-finite = refl
 
-block-bounded : Bounded zeroV farCorner
+block-bounded : UnequalEnds zeroV farCorner
 unfolding fits eq
 block-bounded = record {
   fits-a = record { x = tt; y = tt; z = tt };

@@ -14,7 +14,7 @@ use Rattle.solid_spec.specs.Boxes.{boxShape, parts, multiBoxParts}
 use Rattle.solid_spec.specs.Wire.{wirePoint, wireTubes, wireJoints, wireParts}
 use Rattle.solid_spec.specs.Sphere.{sphere}
 use Rattle.solid_spec.specs.Cylinder.{cylinder}
-use Rattle.solid_spec.specs.Fits.{FitsV, FitsAll, Bounded}
+use Rattle.solid_spec.specs.Fits.{FitsV, FitsAll, UnequalEnds}
 use Rattle.solid_spec.specs.BalancedParts.{EachPart, BalancedPart}
 use Rattle.solid_spec.proofs.Maps.{toCartesian-fits}
 use Rattle.solid_spec.proofs.SphereBalanced.{sphere-balanced}
@@ -80,7 +80,7 @@ module _ (cylindrical : Bool) (v : List Float) (r : Float) (segments rings : ℕ
 
 -- the solid MultiBox
 pub multiBoxParts-balanced : (cylindrical : Bool) (v : List Float) (segments : ℕ) → segments ≤ 1024
-    → ((i : ℕ) → i < length v / 6 → Bounded (vertexAt v (2 * i)) (vertexAt v (2 * i + 1)))
+    → ((i : ℕ) → i < length v / 6 → UnequalEnds (vertexAt v (2 * i)) (vertexAt v (2 * i + 1)))
     → EachPart BalancedPart (multiBoxParts cylindrical v segments)
 unfolding multiBoxParts
 multiBoxParts-balanced cylindrical v segments few g =

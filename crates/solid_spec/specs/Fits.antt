@@ -26,7 +26,7 @@ abbrev pub FitsAll : List Float → Type 0
 FitsAll v = (i : ℕ) → T (fits binary64 (getD v i nan))
 
 -- two ends of a box as given: floats of the format, finite, and unequal as floats on each axis
-pub record Bounded (a b : Vec3) : Type 0 where
+pub record UnequalEnds (a b : Vec3) : Type 0 where
   pub fits-a : FitsV a
   pub fits-b : FitsV b
   pub finite-a : FiniteV a

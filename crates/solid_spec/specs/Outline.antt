@@ -15,7 +15,7 @@ use Rattle.math.specs.Vec.{zeroV, unit, withAxis, vAdd, vMul, cross}
 use Rattle.outline.specs.declared.Point.{Point}
 use Rattle.outline.specs.Corners.{point}
 use Rattle.outline.specs.Axes.{planeAxes}
-use Rattle.mesh_balance_spec.specs.Soup.{Tri, mapTri, flip}
+use Rattle.mesh_balance_spec.specs.Soup.{Tri, mapTri, flipTri}
 use Rattle.mesh_balance_spec.specs.Grid.{quad, upto}
 use Rattle.shape_arc.specs.Arc.{arcSegments, isFull}
 use Rattle.solid_spec.specs.Grid.{Soup}
@@ -27,7 +27,7 @@ planePoint n c h = withAxis (withAxis (withAxis zeroV (planeAxes n .u) (c .x)) (
 -- each cap triangle at one end, and turned round at the other
 abbrev pub caps : {P : Type 0} → (ℕ → P) → (ℕ → P) → List (Tri ℕ) → List (Tri P)
 caps near far [] = []
-caps near far (t ∷ ts) = mapTri near t ∷ flip (mapTri far t) ∷ caps near far ts
+caps near far (t ∷ ts) = mapTri near t ∷ flipTri (mapTri far t) ∷ caps near far ts
 
 -- the `at(i, h)` of `extruded_polygon`
 abbrev pub cornerAt : ℕ → List Float → ℕ → Float → Vec3

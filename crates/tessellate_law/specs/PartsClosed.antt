@@ -42,7 +42,7 @@ use Rattle.slice.specs.Every.{every}
 use Rattle.mesh_spec.specs.Parts.{partsFinite}
 use Rattle.solid_spec.specs.Solid.{partsOf}
 use Rattle.tessellate_law.specs.Words.{FitsSolid, UnequalBounds, EachUnequal, FullTurn, Solid}
-use Rattle.solid_spec.specs.Fits.{FiniteV, FitsV, Bounded, FitsAll}
+use Rattle.solid_spec.specs.Fits.{FiniteV, FitsV, UnequalEnds, FitsAll}
 use Rattle.solid_spec.specs.BalancedParts.{EachPart, BalancedPart}
 
 -- ---- the numbers of cap triangles
@@ -72,7 +72,7 @@ counted p n e = three-each (whole p) ∙ ap (λ (k : ℕ). 3 * k) e
 
 -- ---- bounds
 
-bounded : (a b : Vec3) → FitsV a → FitsV b → FiniteV a → FiniteV b → UnequalBounds a b → Bounded a b
+bounded : (a b : Vec3) → FitsV a → FitsV b → FiniteV a → FiniteV b → UnequalBounds a b → UnequalEnds a b
 bounded a b fa fb na nb u =
     record { fits-a = fa; fits-b = fb; finite-a = na; finite-b = nb; unequal-x = u .x; unequal-y = u .y; unequal-z = u .z }
 
@@ -83,7 +83,7 @@ point-finite v h i l = record { x = at (3 * i) (omega arith); y = at (3 * i + 1)
     at k b = true-T (finite (getD v k nan)) (finite-at v k b h)
 
 boxes-bounded : (v : List Float) → FitsAll v → every finite v ≡ true → EachUnequal v → (i : ℕ) → i < length v / 6
-    → Bounded (vertexAt v (2 * i)) (vertexAt v (2 * i + 1))
+    → UnequalEnds (vertexAt v (2 * i)) (vertexAt v (2 * i + 1))
 boxes-bounded v f h u i l =
     bounded (vertexAt v (2 * i)) (vertexAt v (2 * i + 1)) (vertexAt-fits v f (2 * i)) (vertexAt-fits v f (2 * i + 1))
     (point-finite v h (2 * i) (omega arith)) (point-finite v h (2 * i + 1) (omega arith)) (u i l)

@@ -4,7 +4,7 @@ use mathlib.Core.Bool.{Bool, true, false, cond}
 use mathlib.Core.List.{List}
 use Prim.Native.Nat.{ℕ}
 use lib.Ieee.{Float, binary64, lt, div, ofBits}
-use Rattle.mesh_balance_spec.specs.Soup.{flip as flipTri}
+use Rattle.mesh_balance_spec.specs.Soup.{flipTri}
 use Rattle.mesh_spec.specs.Mesh.{Mesh, flip}
 use Rattle.mesh_spec.specs.Closed.{AllThere}
 use Rattle.mesh_spec.specs.ProperLaws.{flip-all-there}

@@ -48,8 +48,8 @@ abbrev of : ℕ → ℕ → ℕ → Lent
 of nv nt nw = record { vertices = nv; triangles = nt; work = nw }
 
 -- a box between two points, in a system, with a number of segments, operations and their count
-abbrev boxJob : Vec3 → Vec3 → CoordSystem → ℕ → List TransformOp → ℕ → Job
-boxJob a b system segments ops count = record {
+abbrev boxBetween : Vec3 → Vec3 → CoordSystem → ℕ → List TransformOp → ℕ → Job
+boxBetween a b system segments ops count = record {
   shape = Box a b;
   list = [];
   own = Inherited;
@@ -68,7 +68,7 @@ corner = new (float 1) (float 2) (float 3)
 
 -- the box (0,0,0) to (1,2,3)
 abbrev box : Job
-box = boxJob origin corner Cartesian 32 noOps 0
+box = boxBetween origin corner Cartesian 32 noOps 0
 
 -- tessellateOf, with what it takes to compute it
 unfoldable computed : Job → Lent → Ending
@@ -88,7 +88,7 @@ unfolding computed
 fits-exactly = refl
 
 -- so does the box (0,0,0) to (1,2,0): 4 vertices and 2 triangles
-pub flat-fits-exactly : tessellateOf (boxJob origin (new (float 1) (float 2) (float 0)) Cartesian 32 noOps 0) (of 12 6 8) .refusal ≡ Accepted
+pub flat-fits-exactly : tessellateOf (boxBetween origin (new (float 1) (float 2) (float 0)) Cartesian 32 noOps 0) (of 12 6 8) .refusal ≡ Accepted
 unfolding computed
 flat-fits-exactly = refl
 
@@ -143,28 +143,28 @@ unfolding computed
 work-short = refl
 
 -- 3: 1,024 segments, 1,025
-segments-most : tessellateOf (boxJob origin corner Cartesian 1024 noOps 0) (of 24 36 16) .refusal ≡ Accepted
+segments-most : tessellateOf (boxBetween origin corner Cartesian 1024 noOps 0) (of 24 36 16) .refusal ≡ Accepted
 unfolding computed
 segments-most = refl
 
-segments-above : tessellateOf (boxJob origin corner Cartesian 1025 noOps 0) (of 24 36 16) .refusal ≡ TooManySegments
+segments-above : tessellateOf (boxBetween origin corner Cartesian 1025 noOps 0) (of 24 36 16) .refusal ≡ TooManySegments
 unfolding computed
 segments-above = refl
 
 -- 2: the angle 1,000 and the next float above it
-angle-most : jobRefusal (boxJob origin (new (float 1) (float 1000) (float 1)) Cylindrical 3 noOps 0) ≡ Accepted
+angle-most : jobRefusal (boxBetween origin (new (float 1) (float 1000) (float 1)) Cylindrical 3 noOps 0) ≡ Accepted
 unfolding computed
 angle-most = refl
 
 above-1000 : Float
 above-1000 = ofBits binary64 0x408F_4000_0000_0001
 
-angle-above : jobRefusal (boxJob origin (new (float 1) above-1000 (float 1)) Cylindrical 3 noOps 0) ≡ AngleTooLarge
+angle-above : jobRefusal (boxBetween origin (new (float 1) above-1000 (float 1)) Cylindrical 3 noOps 0) ≡ AngleTooLarge
 unfolding computed above-1000
 angle-above = refl
 
 -- the same number is no angle in the Cartesian system
-no-angle : jobRefusal (boxJob origin (new (float 1) above-1000 (float 1)) Cartesian 3 noOps 0) ≡ Accepted
+no-angle : jobRefusal (boxBetween origin (new (float 1) above-1000 (float 1)) Cartesian 3 noOps 0) ≡ Accepted
 unfolding computed above-1000
 no-angle = refl
 
@@ -172,7 +172,7 @@ no-angle = refl
 huge : Float
 huge = ofBits binary64 0x7FE1_CCF3_85EB_C8A0
 
-soup-not-finite : tessellateOf (boxJob (new (neg huge) (float 0) (float 0)) (new huge (float 2) (float 3)) Cartesian 32 noOps 0) (of 24 36 16) .refusal
+soup-not-finite : tessellateOf (boxBetween (new (neg huge) (float 0) (float 0)) (new huge (float 2) (float 3)) Cartesian 32 noOps 0) (of 24 36 16) .refusal
     ≡ PointNotFinite
 unfolding computed huge
 soup-not-finite = refl
@@ -191,43 +191,43 @@ abbrev hugeOps : List TransformOp
 hugeOps = Scale huge ∷ replicate 15 noOp
 
 -- 5: transformed vertices
-vertex-not-finite : tessellateOf (boxJob origin corner Cartesian 32 hugeOps 1) (of 24 36 16) .refusal ≡ PointNotFinite
+vertex-not-finite : tessellateOf (boxBetween origin corner Cartesian 32 hugeOps 1) (of 24 36 16) .refusal ≡ PointNotFinite
 unfolding computed huge
 vertex-not-finite = refl
 
 -- an operation beyond the count is not read
-beyond-count : tessellateOf (boxJob origin corner Cartesian 32 hugeOps 0) (of 24 36 16) .refusal ≡ Accepted
+beyond-count : tessellateOf (boxBetween origin corner Cartesian 32 hugeOps 0) (of 24 36 16) .refusal ≡ Accepted
 unfolding computed huge
 beyond-count = refl
 
 -- ---- the order of the checks: where two are due, the first one answers
 
-6-before-3 : tessellateOf (boxJob origin corner Cartesian 1025 noOps 0) (of 24 36 15) .refusal ≡ ShortWork
+6-before-3 : tessellateOf (boxBetween origin corner Cartesian 1025 noOps 0) (of 24 36 15) .refusal ≡ ShortWork
 unfolding computed
 6-before-3 = refl
 
-3-before-4 : tessellateOf (boxJob origin corner Cartesian 1025 [] 17) (of 24 36 16) .refusal ≡ TooManySegments
+3-before-4 : tessellateOf (boxBetween origin corner Cartesian 1025 [] 17) (of 24 36 16) .refusal ≡ TooManySegments
 unfolding computed
 3-before-4 = refl
 
-4-before-1 : tessellateOf (boxJob origin (new nan (float 2) (float 3)) Cartesian 32 [] 17) (of 24 36 16) .refusal ≡ BadList
+4-before-1 : tessellateOf (boxBetween origin (new nan (float 2) (float 3)) Cartesian 32 [] 17) (of 24 36 16) .refusal ≡ BadList
 unfolding computed
 4-before-1 = refl
 
-1-before-2 : tessellateOf (boxJob origin (new nan above-1000 (float 3)) Cylindrical 3 noOps 0) (of 24 36 16) .refusal ≡ NotFinite
+1-before-2 : tessellateOf (boxBetween origin (new nan above-1000 (float 3)) Cylindrical 3 noOps 0) (of 24 36 16) .refusal ≡ NotFinite
 unfolding computed above-1000
 1-before-2 = refl
 
-2-before-5 : tessellateOf (boxJob (new (neg huge) (float 0) (float 0)) (new huge above-1000 (float 3)) Cylindrical 3 noOps 0) (of 24 36 16) .refusal
+2-before-5 : tessellateOf (boxBetween (new (neg huge) (float 0) (float 0)) (new huge above-1000 (float 3)) Cylindrical 3 noOps 0) (of 24 36 16) .refusal
     ≡ AngleTooLarge
 unfolding computed above-1000 huge
 2-before-5 = refl
 
-5-before-7 : tessellateOf (boxJob (new (neg huge) (float 0) (float 0)) (new huge (float 2) (float 3)) Cartesian 32 noOps 0) (of 0 0 0) .refusal ≡ PointNotFinite
+5-before-7 : tessellateOf (boxBetween (new (neg huge) (float 0) (float 0)) (new huge (float 2) (float 3)) Cartesian 32 noOps 0) (of 0 0 0) .refusal ≡ PointNotFinite
 unfolding computed huge
 5-before-7 = refl
 
-7-before-5 : tessellateOf (boxJob origin corner Cartesian 32 hugeOps 1) (of 23 36 16) .refusal ≡ NoRoom
+7-before-5 : tessellateOf (boxBetween origin corner Cartesian 32 hugeOps 1) (of 23 36 16) .refusal ≡ NoRoom
 unfolding computed huge
 7-before-5 = refl
 

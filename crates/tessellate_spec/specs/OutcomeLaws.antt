@@ -8,7 +8,7 @@ use Rattle.refusal.specs.declared.Refusal.{Refusal}
 use Rattle.refusal.specs.declared.Refusal.the-variants.{Accepted, PointNotFinite, ShortWork, NoRoom}
 use Rattle.refusal.specs.Accepted.{isAccepted, orElse}
 use Rattle.slice.specs.Every.{countedPlaces}
-use Rattle.mesh_balance_spec.specs.Soup.{flip as flipTri}
+use Rattle.mesh_balance_spec.specs.Soup.{flipTri}
 use Rattle.mesh_spec.specs.Mesh.{Mesh, flip, fromParts}
 use Rattle.mesh_spec.specs.Measures.{signedVolume}
 use Rattle.mesh_spec.specs.Parts.{partsFinite}

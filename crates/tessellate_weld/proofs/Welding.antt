@@ -12,10 +12,10 @@ use Rattle.shape.specs.declared.TessellationOptions.{TessellationOptions}
 use Rattle.shape.specs.declared.Items.the-variants.{Corners}
 use Rattle.shape.specs.Drawing.{badList, itemsOf}
 use Rattle.shape.specs.DrawingLaws.{corners-whole}
-use Rattle.solid.specs.Limits.{Bounded, Listed}
+use Rattle.solid.specs.Limits.{FewSegments, Listed}
 use Rattle.tessellate_weld.specs.Steps.{Drawable}
 
-pub bounded : (shape : Shape) (list : List Float) (o : TessellationOptions) → Drawable shape list o → Bounded o
+pub bounded : (shape : Shape) (list : List Float) (o : TessellationOptions) → Drawable shape list o → FewSegments o
 bounded shape list o D = record { segments = D .segments; rings = D .rings }
 
 corners : (n : ℕ) → badList Corners n ≡ false → n ≤ 1024

@@ -3,7 +3,7 @@ use denote.Ref.{now}
 use mathlib.Core.Path.{_≡_, refl, sym, _∙_}
 use mathlib.Core.Bool.{true, false}
 use borrow.Author.Tests.{not-true, not-false}
-use Rattle.mesh_balance_spec.specs.Soup.{flip as flipTri}
+use Rattle.mesh_balance_spec.specs.Soup.{flipTri}
 use Rattle.mesh_spec.specs.Mesh.{flip}
 use Rattle.refusal.specs.Accepted.{isAccepted}
 use Rattle.mesh_check.specs.State.{state, meshOf, stored, checkOf}
