@@ -2,7 +2,7 @@
 use crate::drawings;
 use crate::drawn;
 use crate::written;
-use figures_lines::put_turned_box;
+use figures_titles::put_turned_box;
 use shape::Shape;
 use slice_text::put;
 use transform::TransformOp;

@@ -1,7 +1,7 @@
 // Outlines: cleaning and clipping.
 use crate::written;
-use figures_lines::put_cleaned;
-use figures_lines::put_clipped;
+use figures_outlines::put_cleaned;
+use figures_outlines::put_clipped;
 
 fn clean(v: &[f64; 10]) {
     let mut line = [0u8; 160];

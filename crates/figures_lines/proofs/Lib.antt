@@ -1,2 +1,1 @@
--- What the proofs of `figures_lines` cite.
 mod Cases
