@@ -28,8 +28,8 @@ fn weld_face(
     if !surface_box::has_face(lo, hi, false, f) {
         return w;
     }
-    let p = surface_box::face(lo, hi, f / 2, f % 2 == 1);
-    let n = surface_box::guesses(w.base, f);
+    let p = surface_quad::face(lo, hi, f / 2, f % 2 == 1);
+    let n = surface_quad::guesses(w.base, f);
     let q = weld_quad::weld_quad(
         vertices,
         triangles,

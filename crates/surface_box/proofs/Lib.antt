@@ -1,3 +1,2 @@
 -- Laws that the proofs of `surface_box` use.
 pub mod Choices
-pub mod OneQuad

@@ -1,10 +1,10 @@
--- `surface_box::flat::first_line` meets its contract. Assumes nothing.
+-- `surface_quad::flat::first_line` meets its contract. Assumes nothing.
 use mathlib.Core.Path.{_∙_}
 use mathlib.Core.Bool.{false}
 use borrow.Author.Needs.{needs}
 use Rattle.solid_spec.specs.ParamBox.{coord}
-use Rattle.surface_box.proofs.flat.first_line.Statement.{statement}
-use Rattle.surface_box.proofs.flat.first_line.Tie as tie
+use Rattle.surface_quad.proofs.flat.first_line.Statement.{statement}
+use Rattle.surface_quad.proofs.flat.first_line.Tie as tie
 
 axis-requires : tie.Need-axis-requires
 axis-requires c κs = search needs

@@ -12,8 +12,8 @@ use Rattle.solid_spec.specs.Grid.{Soup, grid}
 use Rattle.solid_spec.specs.ParamBox.{coord}
 use Rattle.surface_spec.specs.Faces.{three, facePoint, numberedFace}
 use Rattle.surface_spec.specs.Surface.{mapped}
-use Rattle.surface_box.specs.declared.Four.{Four}
-use Rattle.surface_box.specs.Flat.{quadOf}
+use Rattle.surface_quad.specs.declared.Four.{Four}
+use Rattle.surface_quad.specs.Flat.{quadOf}
 
 -- the quad in either order
 pub order-high : (side : Bool) (a b c d : Vec3) → side ≡ true → quadOf (record { a = a; b = b; c = c; d = d }) ≡ quadTurned (not side) a b c d

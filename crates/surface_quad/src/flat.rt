@@ -8,9 +8,8 @@ ghost use Rattle.surface_spec.specs.declared.Chart.the-variants.{Cartesian};
 ghost use Rattle.solid_spec.specs.ParamBox as Box;
 ghost use Rattle.surface_spec.specs.Faces.{three, numberedFace};
 ghost use Rattle.surface_spec.specs.Surface.{mapped};
-ghost use Rattle.surface_box.specs.Flat.{quadOf};
+ghost use Rattle.surface_quad.specs.Flat.{quadOf};
 use crate::Four;
-use crate::faces;
 use math::Vec3;
 
 // Grid line 0 of the axis k. Grid line 1 is hi.
@@ -38,7 +37,7 @@ pub fn face(lo: Vec3, hi: Vec3, k: usize, side: bool) -> Four
 {
     let u = (k + 1) % 3;
     let v = (k + 2) % 3;
-    let val = faces::end_of(lo, hi, k, side);
+    let val = surface_box::end_of(lo, hi, k, side);
     let a = first_line(lo, hi, u);
     let b = first_line(lo, hi, v);
     let c = math::axis(hi, u);

@@ -1,8 +1,8 @@
--- `surface_box::flat::face` meets its contract. Assumes nothing.
-use Rattle.surface_box.proofs.OneQuad.{face-is}
+-- `surface_quad::flat::face` meets its contract. Assumes nothing.
+use Rattle.surface_quad.proofs.OneQuad.{face-is}
 use borrow.Author.Needs.{needs}
-use Rattle.surface_box.proofs.flat.face.Statement.{statement}
-use Rattle.surface_box.proofs.flat.face.Tie as tie
+use Rattle.surface_quad.proofs.flat.face.Statement.{statement}
+use Rattle.surface_quad.proofs.flat.face.Tie as tie
 
 add-u : tie.Need-add-u
 add-u c = search needs

@@ -3,7 +3,7 @@ use mathlib.Core.Bool.{cond}
 use mathlib.Core.List.{List, [], _∷_, _++_}
 use Prim.Native.Nat.{ℕ, suc, _+_, _-_, _*_, _/_, _%_, _^_}
 use lib.Dec.{eqb}
-use Rattle.surface_box.specs.declared.FourNumbers.{FourNumbers}
+use Rattle.surface_quad.specs.declared.FourNumbers.{FourNumbers}
 
 -- a corner by the sum of 2 ^ k over the axes k of which it is at the high bound: here 1 is high and 0 is low, for the axis k and the two after it
 abbrev pub corner : ℕ → ℕ → ℕ → ℕ → ℕ

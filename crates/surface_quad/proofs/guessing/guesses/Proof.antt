@@ -1,11 +1,11 @@
--- `surface_box::guessing::guesses` meets its contract. Assumes nothing.
+-- `surface_quad::guessing::guesses` meets its contract. Assumes nothing.
 use mathlib.Core.Path.{_≡_, sym, ap, _∙_}
 use Prim.Native.Nat.{ℕ, _<_}
 use native.Mathlib.Omega.{arith}
-use Rattle.surface_box.specs.Guesses.{guessesOf}
+use Rattle.surface_quad.specs.Guesses.{guessesOf}
 use borrow.Author.Needs.{needs}
-use Rattle.surface_box.proofs.guessing.guesses.Statement.{statement}
-use Rattle.surface_box.proofs.guessing.guesses.Tie as tie
+use Rattle.surface_quad.proofs.guessing.guesses.Statement.{statement}
+use Rattle.surface_quad.proofs.guessing.guesses.Tie as tie
 
 last-face : (f : ℕ) → (f ≡ 0 → ⊥) → (f ≡ 1 → ⊥) → (f ≡ 2 → ⊥) → (f ≡ 3 → ⊥) → (f ≡ 4 → ⊥) → f < 6 → f ≡ 5
 last-face f a b c d e h = omega arith

@@ -1,7 +1,7 @@
 // Guesses at the numbers of a box's points.
 ghost use mathlib.Core.Path.{_≡_};
 ghost use Prim.Native.Nat.{_<_, _^_};
-ghost use Rattle.surface_box.specs.Guesses.{numbersFrom, guessesOf};
+ghost use Rattle.surface_quad.specs.Guesses.{numbersFrom, guessesOf};
 use crate::FourNumbers;
 
 fn numbers_from(base: usize, a: usize, b: usize, c: usize, d: usize) -> FourNumbers

@@ -1,0 +1,2 @@
+-- Laws that the proofs of `surface_quad` use.
+pub mod OneQuad

@@ -1,0 +1,3 @@
+-- What the contracts of `surface_quad` cite.
+pub mod Flat
+pub mod Guesses
