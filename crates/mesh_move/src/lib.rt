@@ -1,14 +1,9 @@
-// The vertices under a matrix: first whether they stay finite, then the vertices themselves.
+// Vertices under a matrix, and a mesh under it.
 ghost use mathlib.Core.Path.{_≡_};
-ghost use mathlib.Core.List.{map};
 ghost use Prim.Native.Nat.{_*_, _≤_};
-ghost use lib.ListN.{length, take};
-ghost use Rattle.math.specs.Vec.{vFinite};
-ghost use Rattle.math_matrix.specs.Mat.{transformPoint};
-ghost use Rattle.mesh_spec.specs.Slices.{points};
-ghost use Rattle.slice.specs.Every.{every};
+ghost use lib.ListN.{length};
 ghost use Rattle.mesh_triples.specs.Triples.{eachTo, movedTriple};
-ghost use Rattle.mesh_move_affine.specs.Affine.{FiniteVertices, Tested};
+ghost use Rattle.mesh_move_affine.specs.Affine.{FiniteVertices};
 
 mod under_matrix;
 
@@ -16,20 +11,6 @@ use math_matrix::Mat4;
 use mesh_triples::put_vertex;
 use mesh_triples::vertex;
 pub use under_matrix::move_mesh;
-
-// Whether the first n vertices are finite after the matrix. A point is divided by its fourth coordinate where that is neither 0 nor 1.
-fn stay_finite_divided(vertices: &[f64], n: usize, a: Mat4) -> bool
-    requires { ⌜ 3 * n ≤ length (now vertices) ⌝ }
-    ensures { λ r. ⌜ r ≡ every vFinite (map (transformPoint a) (points (take (3 * n) (now (vertices .entry))))) ⌝ }
-{
-    let mut ok = true;
-    let mut i = 0;
-    while i < n {
-        ok = ok & math::is_finite(math_matrix_ops::transform_point(a, vertex(vertices, i)));
-        i += 1;
-    }
-    ok
-}
 
 // Puts the first n vertices under the matrix. A point is divided by its fourth coordinate where that is neither 0 nor 1.
 fn move_divided(vertices: &mut [f64], n: usize, a: Mat4)
@@ -44,21 +25,6 @@ fn move_divided(vertices: &mut [f64], n: usize, a: Mat4)
     }
 }
 
-// Whether the first n vertices, which are finite, are so after the matrix. None is computed where `small` says that they
-// lie within the bounds and the matrix is bounded too.
-pub fn keep_finite(vertices: &[f64], n: usize, a: Mat4, small: bool) -> bool
-    requires { ⌜ Tested (now vertices) n small ⌝ }
-    ensures { λ r. ⌜ r ≡ every vFinite (map (transformPoint a) (points (take (3 * n) (now (vertices .entry))))) ⌝ }
-{
-    if small & mesh_move_affine::is_bounded(a) {
-        return true;
-    }
-    if mesh_move_affine::is_affine(a) {
-        return mesh_move_affine::stay_finite(vertices, n, a);
-    }
-    stay_finite_divided(vertices, n, a)
-}
-
 // Puts the first n vertices, which are finite, under the matrix.
 fn move_finite(vertices: &mut [f64], n: usize, a: Mat4)
     requires { ⌜ FiniteVertices (now vertices) n ⌝ }
@@ -69,20 +35,6 @@ fn move_finite(vertices: &mut [f64], n: usize, a: Mat4)
         return;
     }
     move_divided(vertices, n, a);
-}
-
-// Whether the first n vertices are finite after the matrix. Writes nothing.
-pub fn stay_finite(vertices: &[f64], n: usize, a: Mat4) -> bool
-    requires { ⌜ 3 * n ≤ length (now vertices) ⌝ }
-    ensures { λ r. ⌜ r ≡ every vFinite (map (transformPoint a) (points (take (3 * n) (now (vertices .entry))))) ⌝ }
-{
-    if slice_bounded::all_bounded(vertices, 3 * n) {
-        return keep_finite(vertices, n, a, true);
-    }
-    if slice::all_finite(vertices, 3 * n) {
-        return keep_finite(vertices, n, a, false);
-    }
-    stay_finite_divided(vertices, n, a)
 }
 
 // Puts the first n vertices under the matrix.

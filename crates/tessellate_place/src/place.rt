@@ -22,7 +22,7 @@ fn moved(counts: TriMesh, vertices: &mut [f64], triangles: &mut [u32], a: Mat4) 
         r (now (vertices .exit)) (now (triangles .exit)) ⌝ }
 {
     let n = counts.vertices;
-    if !mesh_move::stay_finite(vertices, n, a) {
+    if !mesh_stay_finite::stay_finite(vertices, n, a) {
         return mesh_made::refused(Refusal::PointNotFinite);
     }
     mesh_move::move_mesh(counts, vertices, triangles, a, false);

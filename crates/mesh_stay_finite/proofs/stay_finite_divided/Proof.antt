@@ -1,4 +1,4 @@
--- `mesh_move::stay_finite_divided` meets its contract: ok and what is left to test decide as the whole does. Assumes nothing.
+-- `mesh_stay_finite::stay_finite_divided` meets its contract: ok and what is left to test decide as the whole does. Assumes nothing.
 use denote.Ref.{now}
 use mathlib.Core.Path.{refl, ap, _∙_}
 use Prim.Native.Nat.{_-_}
@@ -6,8 +6,8 @@ use native.Mathlib.Omega.{arith}
 use Rattle.math.specs.Vec.{vFinite}
 use Rattle.math_matrix.specs.Mat.{transformPoint}
 use Rattle.mesh_triples.proofs.PointLoops.{Testing, testing-turn, testing-end}
-use Rattle.mesh_move.proofs.stay_finite_divided.Statement.{statement}
-use Rattle.mesh_move.proofs.stay_finite_divided.Tie as tie
+use Rattle.mesh_stay_finite.proofs.stay_finite_divided.Statement.{statement}
+use Rattle.mesh_stay_finite.proofs.stay_finite_divided.Tie as tie
 
 abbrev Inv-loop : tie.InvT-loop
 Inv-loop vertices n a ok₀ i₀ ok i = Testing (transformPoint a) vertices n ok i

@@ -1,10 +1,10 @@
--- `mesh_move::stay_finite` meets its contract: for vertices within the bounds, for other finite ones, or for any. Assumes nothing.
+-- `mesh_stay_finite::stay_finite` meets its contract: for vertices within the bounds, for other finite ones, or for any. Assumes nothing.
 use denote.Ref.{now}
 use mathlib.Core.Path.{sym, _∙_}
 use borrow.Author.Needs.{needs}
 use Rattle.mesh_move_affine.proofs.BoundedLaws.{tested-small, tested-finite}
-use Rattle.mesh_move.proofs.stay_finite.Statement.{statement}
-use Rattle.mesh_move.proofs.stay_finite.Tie as tie
+use Rattle.mesh_stay_finite.proofs.stay_finite.Statement.{statement}
+use Rattle.mesh_stay_finite.proofs.stay_finite.Tie as tie
 
 mul-all-bounded : tie.Need-mul-all-bounded
 mul-all-bounded c = search needs

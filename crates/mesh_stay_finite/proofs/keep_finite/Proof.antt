@@ -1,4 +1,4 @@
--- `mesh_move::keep_finite` meets its contract: by the bounds, by the loop without a division, or by the one with it. Assumes nothing.
+-- `mesh_stay_finite::keep_finite` meets its contract: by the bounds, by the loop without a division, or by the one with it. Assumes nothing.
 use denote.Ref.{now}
 use mathlib.Core.Path.{sym}
 use Prim.Native.Nat.{_*_}
@@ -6,8 +6,8 @@ use lib.ListN.{take}
 use borrow.Author.Needs.{needs}
 use Rattle.slice_law.specs.Bools.{and-left, and-right}
 use Rattle.mesh_move_affine.proofs.BoundedLaws.{keeps}
-use Rattle.mesh_move.proofs.keep_finite.Statement.{statement}
-use Rattle.mesh_move.proofs.keep_finite.Tie as tie
+use Rattle.mesh_stay_finite.proofs.keep_finite.Statement.{statement}
+use Rattle.mesh_stay_finite.proofs.keep_finite.Tie as tie
 
 is-bounded-requires : tie.Need-is-bounded-requires
 is-bounded-requires c κs = tt
