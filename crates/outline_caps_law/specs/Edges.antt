@@ -10,7 +10,8 @@ use native.Mathlib.Omega.{arith}
 use lib.ListN.{length, getD, List·getD-eq-default}
 use Rattle.mesh_balance_spec.specs.Soup.{Weight, rev}
 use Rattle.outline_ears.specs.Ears.{ip, inx}
-use Rattle.outline_triangulate.specs.Triangulate.{without, fans, fan}
+use Rattle.outline_remaining.specs.Without.{without}
+use Rattle.outline_triangulate.specs.Triangulate.{fans, fan}
 
 -- the weights of the edges of triangles, three numbers to a triangle: from each corner to the next one
 unfoldable pub edges : Weight ℕ → List ℕ → ℕ

@@ -10,7 +10,8 @@ use Rattle.outline.specs.Corners.{point, same}
 use Rattle.outline_triangle.specs.Triangle.{cross, largest, scale, tolerance, inTriangle, blocks}
 use Rattle.outline_ears.specs.Ears.{any, blocked, ip, inx, earAt, crossAt, isEar, isFlat, counting, find}
 use Rattle.outline_ears.specs.Ears.{firstEar, firstFlat}
-use Rattle.outline_triangulate.specs.Triangulate.{without, clipped, dropped, fans, fan, fanned, byFound, pass, passes, finished, start, triangulated}
+use Rattle.outline_remaining.specs.Without.{without}
+use Rattle.outline_triangulate.specs.Triangulate.{clipped, dropped, fans, fan, fanned, byFound, pass, passes, finished, start, triangulated}
 use Rattle.outline_triangulate.specs.Triangulate.{triangulatePolygon}
 
 abbrev n0 : Float

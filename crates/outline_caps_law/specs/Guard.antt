@@ -15,9 +15,10 @@ use Rattle.outline_ears.specs.Ears.{counting, isEar, isFlat, firstEar, firstFla
 use Rattle.outline_ears.specs.declared.Found.{Found}
 use Rattle.outline_ears.specs.declared.Found.the-variants.{At, Nothing}
 use Rattle.outline_ears.proofs.Laws.{find-below}
-use Rattle.outline_triangulate.specs.Triangulate.{Clipping, without, clipped, dropped, fanned, byFound, pass, passes, finished, start, triangulated}
+use Rattle.outline_remaining.specs.Without.{without}
+use Rattle.outline_triangulate.specs.Triangulate.{Clipping, clipped, dropped, fanned, byFound, pass, passes, finished, start, triangulated}
 use Rattle.outline_triangulate.specs.Triangulate.{triangulatePolygon}
-use Rattle.outline_triangulate.proofs.Writing.{length-without}
+use Rattle.outline_remaining.proofs.Taken.{length-without}
 use Rattle.outline_triangulate.proofs.Steps.{passes-more, passes-done, square-enough}
 use Rattle.outline_caps_law.specs.Caps.{counting-length}
 

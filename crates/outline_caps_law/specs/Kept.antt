@@ -16,8 +16,9 @@ use Rattle.outline_ears.specs.Ears.{ip, inx, isEar, isFlat, firstEar, firstFlat
 use Rattle.outline_ears.specs.declared.Found.{Found}
 use Rattle.outline_ears.specs.declared.Found.the-variants.{At, Nothing}
 use Rattle.outline_ears.proofs.Laws.{find-below}
-use Rattle.outline_triangulate.specs.Triangulate.{Clipping, without, fan, clipped, dropped, fanned, byFound, pass, passes, finished}
-use Rattle.outline_triangulate.proofs.Writing.{length-without}
+use Rattle.outline_remaining.specs.Without.{without}
+use Rattle.outline_triangulate.specs.Triangulate.{Clipping, fan, clipped, dropped, fanned, byFound, pass, passes, finished}
+use Rattle.outline_remaining.proofs.Taken.{length-without}
 use Rattle.outline_caps_law.specs.Edges.{edges, chain, cycle, Thirds, none, more, cycle-cut, thirds-append, edges-append, fan-thirds, fan-length}
 use Rattle.outline_caps_law.specs.Edges.{fan-edges}
 

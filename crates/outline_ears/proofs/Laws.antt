@@ -8,23 +8,27 @@ use native.Mathlib.Nat.{mod-lt, mod-self, mod-eq-of-lt, add-mod-left, sub-zero}
 use native.Mathlib.Omega.{arith}
 use lib.ListN.{length, getD, take, drop, drop-of-length-le}
 use lib.Seq.{drop-cons, getD-take, length-take-le}
+use borrow.Author.Tests.{eq-eqb, ne-eqb}
+use lib.Dec.{eqb}
 use lib.Ieee.{Float, le}
 use Rattle.ieee.specs.Number.{absolute}
 use Rattle.outline.specs.declared.Point.{Point}
 use Rattle.outline.specs.Corners.{point}
-use Rattle.outline_triangle.specs.Triangle.{cross, blocks}
+use Rattle.outline_triangle.specs.Triangle.{blocks}
 use Rattle.outline_triangle.specs.declared.Ear.{Ear}
 use Rattle.outline_ears.specs.Ears.{any, blocked, ip, inx, earAt, crossAt, isEar, isFlat, counting, find, firstEar, firstFlat}
 use Rattle.outline_ears.specs.Inside.{Inside}
+use Rattle.outline_ears.specs.Kinds.{kindOf, Kinds, isFlatOf, firstFlatOf}
 use Rattle.outline_ears.specs.declared.Found.{Found}
 use Rattle.outline_ears.specs.declared.Found.the-variants.{At, Nothing}
+use Rattle.outline_ears.proofs.Tests.{ear-by, flat-by, absolute-le}
 
 -- ---- the indices beside k, with no division
 
-pub previous-of-first : (k n : ℕ) → k < n → k ≡ 0 → n - 1 ≡ (k + n - 1) % n
+pub previous-of-first : (k n : ℕ) → 0 < n → k ≡ 0 → n - 1 ≡ (k + n - 1) % n
 previous-of-first k n h e = let s : k + n - 1 ≡ n - 1 = omega arith in sym (ap (λ (x : ℕ). x % n) s ∙ mod-eq-of-lt (omega arith))
 
-pub previous-of-later : (k n : ℕ) → k < n → 0 < k → k - 1 ≡ (k + n - 1) % n
+pub previous-of-later : (k n : ℕ) → k ≤ n → 0 < k → k - 1 ≡ (k + n - 1) % n
 previous-of-later k n h o =
     let s : k + n - 1 ≡ n + (k - 1) = omega arith in
     sym (ap (λ (x : ℕ). x % n) s ∙ add-mod-left n (k - 1) ∙ mod-eq-of-lt (omega arith))
@@ -119,23 +123,66 @@ module _ (v : List Float) (idx : List ℕ) (n : ℕ) (s : Inside v idx n) where
   unfolding firstEar
   firstEar-is e = rw (idx-length, sub-zero)
 
-  pub firstFlat-is : (e : Float) → find (isFlat v e (take n idx)) (counting 0 (n - 0)) ≡ firstFlat v e (take n idx)
-  unfolding firstFlat
-  firstFlat-is e = rw (idx-length, sub-zero)
+-- ---- the kinds that the code keeps
 
-module _ (v : List Float) (l : List ℕ) (k : ℕ) (e : Float) (t : Ear) (ht : t ≡ earAt v l k) (x : Float) (hx : x ≡ cross (t .a) (t .b) (t .c)) where
-  cross-is : x ≡ crossAt v l k
-  unfolding crossAt
-  cross-is = hx ∙ rw ht
+find-same : (p q : ℕ → Bool) (d k : ℕ) → ((j : ℕ) → j < k + d → p j ≡ q j) → find p (counting k d) ≡ find q (counting k d)
+unfolding find counting
+find-same p q zero k h = refl
+find-same p q (suc d) k h = rw (h k (omega arith), find-same p q d (suc k) (λ j l. h j (omega arith)))
 
-  pub isEar-not : le x e ≡ true → false ≡ isEar v e l k
-  unfolding isEar
-  isEar-not h = rw (← cross-is, h)
+pub firstFlatOf-is : (kinds : List ℕ) (m : ℕ) → find (isFlatOf kinds) (counting 0 (m - 0)) ≡ firstFlatOf kinds m
+unfolding firstFlatOf
+firstFlatOf-is kinds m = rw sub-zero
 
-  pub isEar-is : {b : Bool} → le x e ≡ false → b ≡ blocked v e t l → not b ≡ isEar v e l k
-  unfolding isEar
-  isEar-is h hb = rw (hb, ← cross-is, h, ht)
+module _ (kinds : List ℕ) (k : ℕ) where
+  pub flat-here : getD kinds k 0 ≡ 1 → isFlatOf kinds k ≡ true
+  unfolding isFlatOf
+  flat-here e = eq-eqb (getD kinds k 0) 1 e
 
-  pub isFlat-is : {y : Float} → y ≡ absolute x → le y e ≡ isFlat v e l k
-  unfolding isFlat
-  isFlat-is hy = rw (hy, cross-is)
+  pub flat-not : (getD kinds k 0 ≡ 1 → ⊥) → isFlatOf kinds k ≡ false
+  unfolding isFlatOf
+  flat-not e = ne-eqb (getD kinds k 0) 1 e
+
+-- a kind by its two tests
+pub kind-flat : (e x : Float) {y : Float} → y ≡ absolute x → le x e ≡ true → le y e ≡ true → 1 ≡ kindOf e x
+unfolding kindOf
+kind-flat e x hy l f = rw (l, ← hy, f)
+
+pub kind-neither : (e x : Float) {y : Float} → y ≡ absolute x → le x e ≡ true → le y e ≡ false → 0 ≡ kindOf e x
+unfolding kindOf
+kind-neither e x hy l f = rw (l, ← hy, f)
+
+pub kind-ear : (e x : Float) → le x e ≡ false → 2 ≡ kindOf e x
+unfolding kindOf
+kind-ear e x l = rw l
+
+-- and the two tests by a kind
+ear-kind : (e x : Float) → eqb (kindOf e x) 2 ≡ not (le x e)
+unfolding kindOf
+ear-kind e x = ear-by (le x e) (le (absolute x) e)
+
+flat-kind : (e x : Float) → eqb (kindOf e x) 1 ≡ le (absolute x) e
+unfolding kindOf
+flat-kind e x = flat-by (le x e) (le (absolute x) e) (absolute-le x e)
+
+module _ (v : List Float) (e : Float) (idx kinds : List ℕ) (n : ℕ) (s : Inside v idx n) (x : Kinds v e idx kinds n) where
+  pub firstFlat-by : firstFlatOf kinds n ≡ firstFlat v e (take n idx)
+  unfolding firstFlatOf firstFlat isFlatOf isFlat
+  firstFlat-by =
+      rw (idx-length v idx n s)
+      (find-same (isFlatOf kinds) (isFlat v e (take n idx)) n 0
+      (λ k h. ap (λ (y : ℕ). eqb y 1) (x .there k (omega arith)) ∙ flat-kind e (crossAt v (take n idx) k)))
+
+  -- the corner at index k, by the kind that is held there
+  module _ (k : ℕ) (h : k < n) where
+    held : eqb (getD kinds k 0) 2 ≡ not (le (crossAt v (take n idx) k) e)
+    held = ap (λ (y : ℕ). eqb y 2) (x .there k h) ∙ ear-kind e (crossAt v (take n idx) k)
+
+    pub isEar-not : (getD kinds k 0 ≡ 2 → ⊥) → false ≡ isEar v e (take n idx) k
+    unfolding isEar
+    isEar-not l = rw (← held, ne-eqb (getD kinds k 0) 2 l)
+
+    pub isEar-is : {t : Ear} {b : Bool} → getD kinds k 0 ≡ 2 → t ≡ earAt v (take n idx) k → b ≡ blocked v e t (take n idx)
+        → not b ≡ isEar v e (take n idx) k
+    unfolding isEar
+    isEar-is l ht hb = rw (hb, ← held, eq-eqb (getD kinds k 0) 2 l, ht)

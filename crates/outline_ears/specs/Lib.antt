@@ -1,2 +1,3 @@
 pub mod Ears
 pub mod Inside
+pub mod Kinds

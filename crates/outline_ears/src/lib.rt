@@ -1,16 +1,38 @@
 // The searches of the ear clipper (src/tessellate.rs, triangulate_polygon). v is the corner list, two floats to a corner. The Rust's idx, the numbers of the
-// corners that remain, is the first m numbers of the array idx.
+// corners that remain, is the first m numbers of the array idx. The first m of kinds say what the Rust's cross makes of the corner
+// at each index, which the searches read.
 use outline_triangle::Ear;
 ghost use mathlib.Core.Path.{_≡_};
 ghost use Prim.Native.Nat.{_+_, _-_, _%_, _<_, _≤_};
-ghost use lib.ListN.{take};
-ghost use Rattle.outline_ears.specs.Ears.{blocked as blocked·, earAt, isEar, firstEar, firstFlat};
+ghost use lib.ListN.{length, take};
+ghost use Rattle.outline_ears.specs.Ears.{blocked as blocked·, earAt, isEar, firstEar};
 ghost use Rattle.outline_ears.specs.Inside.{Inside};
+ghost use Rattle.outline_ears.specs.Kinds.{kindOf, Kinds, firstFlatOf};
 
 // What a search finds: an index of idx.
 pub enum Found {
     At(usize),
     Nothing,
+}
+
+// What a cross makes of its corner: an ear, unless a corner blocks it; flat; or neither.
+const EAR: u8 = 2;
+
+const FLAT: u8 = 1;
+
+const NEITHER: u8 = 0;
+
+// The kind of a corner by its cross. A NaN is not <= eps, so it counts as an ear's.
+pub fn kind_of(eps: f64, cross: f64) -> u8
+    ensures { λ r. ⌜ r ≡ kindOf eps cross ⌝ }
+{
+    if cross <= eps {
+        if ieee::abs(cross) <= eps {
+            return FLAT;
+        }
+        return NEITHER;
+    }
+    EAR
 }
 
 // The Rust's blocked: whether some corner that remains keeps t from being clipped.
@@ -30,8 +52,8 @@ fn blocked(v: &[f64], eps: f64, t: Ear, idx: &[u32; 512], m: usize) -> bool
 }
 
 // The Rust's (k + m - 1) % m, with no division.
-fn previous(k: usize, m: usize) -> usize
-    requires { ⌜ (k < m) × (m ≤ 512) ⌝ }
+pub fn previous(k: usize, m: usize) -> usize
+    requires { ⌜ (k ≤ m) × (0 < m) × (m ≤ 512) ⌝ }
     ensures { λ r. ⌜ (r ≡ (k + m - 1) % m) × (r < m) ⌝ }
 {
     if k == 0 {
@@ -41,7 +63,7 @@ fn previous(k: usize, m: usize) -> usize
 }
 
 // The Rust's (k + 1) % m, with no division.
-fn next(k: usize, m: usize) -> usize
+pub fn next(k: usize, m: usize) -> usize
     requires { ⌜ (k < m) × (m ≤ 512) ⌝ }
     ensures { λ r. ⌜ (r ≡ (k + 1) % m) × (r < m) ⌝ }
 {
@@ -70,13 +92,13 @@ pub fn ear_at(v: &[f64], idx: &[u32; 512], m: usize, k: usize) -> Ear
 }
 
 // The first index whose corner is an ear that no other corner blocks.
-pub fn first_ear(v: &[f64], eps: f64, idx: &[u32; 512], m: usize) -> Found
-    requires { ⌜ Inside (now v) (now idx) m ⌝ }
+pub fn first_ear(v: &[f64], eps: f64, idx: &[u32; 512], kinds: &[u8; 512], m: usize) -> Found
+    requires { ⌜ Inside (now v) (now idx) m × Kinds (now v) eps (now idx) (now kinds) m ⌝ }
     ensures { λ r. ⌜ r ≡ firstEar (now (v .entry)) eps (take m (now (idx .entry))) ⌝ }
 {
     let mut k = 0;
     while k < m {
-        if is_ear(v, eps, idx, m, k) {
+        if is_ear(v, eps, idx, kinds, m, k) {
             return Found::At(k);
         }
         k += 1;
@@ -84,27 +106,26 @@ pub fn first_ear(v: &[f64], eps: f64, idx: &[u32; 512], m: usize) -> Found
     Found::Nothing
 }
 
-// Whether the corner at index k is an ear that no other corner blocks. A cross that is NaN is not <= eps, so it counts as an ear's.
-fn is_ear(v: &[f64], eps: f64, idx: &[u32; 512], m: usize, k: usize) -> bool
-    requires { ⌜ (k < m) × Inside (now v) (now idx) m ⌝ }
+// Whether the corner at index k is an ear that no other corner blocks.
+fn is_ear(v: &[f64], eps: f64, idx: &[u32; 512], kinds: &[u8; 512], m: usize, k: usize) -> bool
+    requires { ⌜ (k < m) × Inside (now v) (now idx) m × Kinds (now v) eps (now idx) (now kinds) m ⌝ }
     ensures { λ r. ⌜ r ≡ isEar (now (v .entry)) eps (take m (now (idx .entry))) k ⌝ }
 {
-    let t = ear_at(v, idx, m, k);
-    if outline_triangle::cross(t.a, t.b, t.c) <= eps {
+    if kinds[k] != EAR {
         return false;
     }
+    let t = ear_at(v, idx, m, k);
     !blocked(v, eps, t, idx, m)
 }
 
-// The first index whose corner is flat: the absolute value of its cross is at most eps.
-pub fn first_flat(v: &[f64], eps: f64, idx: &[u32; 512], m: usize) -> Found
-    requires { ⌜ Inside (now v) (now idx) m ⌝ }
-    ensures { λ r. ⌜ r ≡ firstFlat (now (v .entry)) eps (take m (now (idx .entry))) ⌝ }
+// The first index whose corner is flat.
+pub fn first_flat(kinds: &[u8; 512], m: usize) -> Found
+    requires { ⌜ (m ≤ 512) × (length (now kinds) ≡ 512) ⌝ }
+    ensures { λ r. ⌜ r ≡ firstFlatOf (now (kinds .entry)) m ⌝ }
 {
     let mut j = 0;
     while j < m {
-        let t = ear_at(v, idx, m, j);
-        if ieee::abs(outline_triangle::cross(t.a, t.b, t.c)) <= eps {
+        if kinds[j] == FLAT {
             return Found::At(j);
         }
         j += 1;

@@ -12,20 +12,21 @@ use borrow.Author.Tests.{eq-eqb, ne-eqb, lt-ltb, le-ltb}
 use Rattle.slice_law.specs.Lists.{drop-further}
 use Rattle.outline.specs.Corners.{point}
 use Rattle.outline_triangle.specs.Triangle.{cross, tolerance}
+use Rattle.outline_triangle.specs.declared.Ear.{Ear}
 use Rattle.outline_ears.specs.Ears.{ip, inx, counting, earAt, isEar, isFlat, firstEar, firstFlat}
 use Rattle.outline_ears.specs.Inside.{Inside}
-use Rattle.outline_triangle.specs.declared.Ear.{Ear}
+use Rattle.outline_ears.specs.Kinds.{Kinds}
 use Rattle.outline_ears.specs.declared.Found.{Found}
 use Rattle.outline_ears.specs.declared.Found.the-variants.{At, Nothing}
 use Rattle.outline_ears.proofs.Laws.{idx-length, idx-at, find-below}
-use Rattle.outline_triangulate.specs.Triangulate.{Clipping, without, fan, clipped, dropped, fanned, byFound, pass, passes, finished, start, triangulated}
+use Rattle.outline_remaining.specs.declared.Remaining.{Remaining}
+use Rattle.outline_remaining.specs.Removed.{idxOf, Removed}
+use Rattle.outline_triangulate.specs.Triangulate.{Clipping, fan, clipped, dropped, fanned, byFound, pass, passes, finished, start, triangulated}
 use Rattle.outline_triangulate.specs.Triangulate.{triangulatePolygon}
-use Rattle.outline_triangulate.specs.Slices.{idxOf, clippingOf, none, Room, Passing, CutAs, WroteTriangles}
-use Rattle.outline_triangulate.specs.declared.Remaining.{Remaining}
+use Rattle.outline_triangulate.specs.Slices.{clippingOf, none, Room, Passing, CutAs, WroteTriangles}
 use Rattle.outline_triangulate.specs.declared.Cut.{Cut}
 use Rattle.outline_triangulate.specs.declared.Passed.{Passed}
 use Rattle.outline_triangulate.specs.declared.Passed.the-variants.{Without, Fanned}
-use Rattle.outline_triangulate.proofs.Writing.{without-inside}
 
 -- ---- states
 
@@ -131,10 +132,11 @@ module _ (v : List Float) (e : Float) (idx : List ℕ) (n : ℕ) (c : Cut) (b : 
 pub passing-at : {v : List Float} {e : Float} {idx : List ℕ} {n : ℕ} {c : Cut} {b a : List ℕ} {r r' : Passed} → r ≡ r' → Passing v e idx n c b r a → Passing v e idx n c b r' a
 passing-at h p = rw h at p
 
--- ---- a step of the loop: from w, c and the slice b to w', c' and a
+-- ---- a step of the loop: from w, c and the slice b to w', c' and a, with the kinds x then
 
-pub record Goes (v : List Float) (e : Float) (w : Remaining) (c : Cut) (b : List ℕ) (w' : Remaining) (c' : Cut) (a : List ℕ) : Type 0 where
+pub record Goes (v : List Float) (e : Float) (w : Remaining) (c : Cut) (b : List ℕ) (w' : Remaining) (c' : Cut) (a x : List ℕ) : Type 0 where
   pub inside : Inside v (w' .idx) (w' .m)
+  pub kept : Kinds v e (w' .idx) x (w' .m)
   pub room : Room (w' .m) c' a
   pub state : clippingOf (idxOf w') c' a ≡ pass v e (clippingOf (idxOf w) c b)
   pub rest : drop (3 * c' .triangles) a ≡ drop (3 * c' .triangles) b
@@ -142,22 +144,25 @@ pub record Goes (v : List Float) (e : Float) (w : Remaining) (c : Cut) (b : List
   pub falls : w' .m < w .m
 
 module _ (v : List Float) (e : Float) (w : Remaining) (c : Cut) (b : List ℕ) (c' : Cut) (a : List ℕ) (s : Inside v (w .idx) (w .m)) where
-  pub goes-without : (k : ℕ) (l : List ℕ) → Passing v e (w .idx) (w .m) c b (Without k c') a
-      → (length l ≡ 512) × (take (w .m - 1) l ≡ without k (idxOf w)) → Goes v e w c b (record { idx = l; m = w .m - 1 }) c' a
-  goes-without k l p q =
+  pub goes-without : (k : ℕ) (l x : List ℕ) → Passing v e (w .idx) (w .m) c b (Without k c') a → Removed v e (w .m) k (w .idx) l x
+      → Goes v e w c b (record { idx = l; m = w .m - 1 }) c' a x
+  goes-without k l x p q =
       record {
-        inside = without-inside v w l k s (p .index) (q .0) (q .1);
+        inside = q .inside;
+        kept = q .kept;
         room = p .room;
-        state = clipping-eq (q .1) refl refl ∙ p .state;
+        state = clipping-eq (q .list) refl refl ∙ p .state;
         rest = p .rest;
         grows = p .grows;
         falls = omega (arith, p .index);
       }
 
-  pub goes-fanned : 3 < w .m → Passing v e (w .idx) (w .m) c b (Fanned c') a → Goes v e w c b (record { idx = w .idx; m = 0 }) c' a
-  goes-fanned h3 p =
+  pub goes-fanned : (x : List ℕ) → 3 < w .m → Kinds v e (w .idx) x (w .m) → Passing v e (w .idx) (w .m) c b (Fanned c') a
+      → Goes v e w c b (record { idx = w .idx; m = 0 }) c' a x
+  goes-fanned x h3 q p =
       record {
         inside = record { long = s .long; small = omega arith; there = λ i h. absurd (not-suc-le-zero h) };
+        kept = record { long = q .long; there = λ i h. absurd (not-suc-le-zero h) };
         room = p .room;
         state = p .state;
         rest = p .rest;
@@ -190,19 +195,21 @@ reaches-end v e s r n h q = sym (passes-done v e s (q .fuel) h) ∙ q .there
 
 -- ---- the loop
 
--- what the loop keeps: w remain, c has the counts, out is the slice, which was out₀ at first; the passes go on to r
-pub record Going (v : List Float) (e : Float) (r : Clipping) (out₀ : List ℕ) (w : Remaining) (c : Cut) (out : List ℕ) : Type 0 where
+-- what the loop keeps: w remain, with the kinds x, c has the counts, out is the slice, which was out₀ at first; the passes go on to r
+pub record Going (v : List Float) (e : Float) (r : Clipping) (out₀ : List ℕ) (w : Remaining) (c : Cut) (out x : List ℕ) : Type 0 where
   pub inside : Inside v (w .idx) (w .m)
+  pub kept : Kinds v e (w .idx) x (w .m)
   pub room : Room (w .m) c out
   pub long : length out ≡ length out₀
   pub rest : drop (3 * c .triangles) out ≡ drop (3 * c .triangles) out₀
   pub reaches : Reaches v e (clippingOf (idxOf w) c out) r (w .m)
 
-pub goes-on : (v : List Float) (e : Float) (r : Clipping) (out₀ : List ℕ) (w : Remaining) (c : Cut) (b : List ℕ) (w' : Remaining) (c' : Cut) (a : List ℕ) → 3 < w .m
-    → length a ≡ length b → Goes v e w c b w' c' a → Going v e r out₀ w c b → Going v e r out₀ w' c' a
-goes-on v e r out₀ w c b w' c' a h3 hl g i =
+pub goes-on : (v : List Float) (e : Float) (r : Clipping) (out₀ : List ℕ) (w : Remaining) (c : Cut) (b x : List ℕ) (w' : Remaining) (c' : Cut) (a x' : List ℕ)
+    → 3 < w .m → length a ≡ length b → Goes v e w c b w' c' a x' → Going v e r out₀ w c b x → Going v e r out₀ w' c' a x'
+goes-on v e r out₀ w c b x w' c' a x' h3 hl g i =
     record {
       inside = g .inside;
+      kept = g .kept;
       room = g .room;
       long = hl ∙ i .long;
       rest = g .rest ∙ drop-further (3 * c .triangles) (3 * c' .triangles) b out₀ (omega (arith, g .grows)) (i .rest);
@@ -240,50 +247,46 @@ pub cut-short : {s : Clipping} {c : Cut} {b a : List ℕ} → CutAs s c b a → 
 cut-short {s} {c} {b} {a} g =
     omega (arith, ap length (g .slice) ∙ length-append (s .triangles) (drop (length (s .triangles)) b), g .count)
 
-three-of : (l : List ℕ) → length l ≡ 3 → getD l 0 0 ∷ getD l 1 0 ∷ getD l 2 0 ∷ [] ≡ take 3 l
+-- ---- the last three corners
+
+-- no triangle is written
+same-cut : (v : List Float) (e : Float) (l : List ℕ) (n : ℕ) (c : Cut) (b : List ℕ) → Room n c b → finished v e (clippingOf l c b) ≡ clippingOf l c b → CutAs (finished v e (clippingOf l c b)) c b b
+same-cut v e l n c b m q =
+    cut-as (finished v e (clippingOf l c b)) c b b
+    (ap (λ (r : Clipping). r .triangles) (sym q)) refl (omega (arith, m .room)) (ap (λ (r : Clipping). r .removed) (sym q))
+
+-- i, j and k remain, and x is their cross
+module _ (v : List Float) (e : Float) (i j k : ℕ) (c : Cut) (b : List ℕ) (m : Room 3 c b) (x : Float) (hx : x ≡ cross (point v i) (point v j) (point v k)) where
+  pub flat-cut : lt e x ≡ false → CutAs (finished v e (clippingOf (i ∷ j ∷ k ∷ []) c b)) c b b
+  flat-cut h = same-cut v e (i ∷ j ∷ k ∷ []) 3 c b m (finished-flat v e (clippingOf (i ∷ j ∷ k ∷ []) c b) x hx refl h)
+
+  pub triangle-cut : (a : List ℕ) → length a ≡ length b → lt e x ≡ true → WroteTriangles (c .triangles) (c .triangles + 1) (i ∷ j ∷ k ∷ []) b a
+      → CutAs (finished v e (clippingOf (i ∷ j ∷ k ∷ []) c b)) (record { triangles = c .triangles + 1; removed = c .removed }) b a
+  triangle-cut a hl h p =
+      let q = finished-triangle v e (clippingOf (i ∷ j ∷ k ∷ []) c b) x hx refl h in
+      cut-as (finished v e (clippingOf (i ∷ j ∷ k ∷ []) c b)) (record { triangles = c .triangles + 1; removed = c .removed }) b a
+      (p .front ∙ ap (λ (r : Clipping). r .triangles) (sym q))
+      (p .rest)
+      (omega (arith, m .room))
+      (ap (λ (r : Clipping). r .removed) (sym q))
+
+three-of : (l : List ℕ) → length l ≡ 3 → getD l 0 0 ∷ getD l 1 0 ∷ getD l 2 0 ∷ [] ≡ l
 three-of [] h = absurd (omega (arith, h))
 three-of (a ∷ []) h = absurd (omega (arith, h))
 three-of (a ∷ b ∷ []) h = absurd (omega (arith, h))
-three-of (a ∷ b ∷ c ∷ l) h = refl
+three-of (a ∷ b ∷ c ∷ []) h = refl
+three-of (a ∷ b ∷ c ∷ d ∷ l) h = absurd (omega (arith, h))
 
--- ---- the last three corners
+module _ (v : List Float) (e : Float) (idx : List ℕ) (n : ℕ) (c : Cut) (b : List ℕ) (s : Inside v idx n) where
+  pub few-cut : Room n c b → (n ≡ 3 → ⊥) → CutAs (finished v e (clippingOf (take n idx) c b)) c b b
+  few-cut m h = same-cut v e (take n idx) n c b m (finished-few v e (clippingOf (take n idx) c b) (λ l. h (sym (idx-length v idx n s) ∙ l)))
 
-module _ (v : List Float) (e : Float) (idx : List ℕ) (n : ℕ) (c : Cut) (b : List ℕ) (s : Inside v idx n) (m : Room n c b) where
-  -- no triangle is written
-  pub same-cut : finished v e (clippingOf (take n idx) c b) ≡ clippingOf (take n idx) c b → CutAs (finished v e (clippingOf (take n idx) c b)) c b b
-  same-cut q =
-      cut-as (finished v e (clippingOf (take n idx) c b)) c b b
-      (ap (λ (r : Clipping). r .triangles) (sym q)) refl (omega (arith, m .room)) (ap (λ (r : Clipping). r .removed) (sym q))
-
-  pub few-cut : (n ≡ 3 → ⊥) → CutAs (finished v e (clippingOf (take n idx) c b)) c b b
-  few-cut h = same-cut (finished-few v e (clippingOf (take n idx) c b) (λ l. h (sym (idx-length v idx n s) ∙ l)))
-
-  -- three remain, and x is their cross
-  module _ (h3 : n ≡ 3) (x : Float) (hx : x ≡ cross (point v (getD idx 0 0)) (point v (getD idx 1 0)) (point v (getD idx 2 0))) where
-    in-list : (i : ℕ) → i < 3 → getD (take n idx) i 0 ≡ getD idx i 0
-    in-list i h = idx-at v idx n s i (omega arith)
-
-    three : length (take n idx) ≡ 3
-    three = idx-length v idx n s ∙ h3
-
-    cross-is : x ≡ cross (point v (getD (take n idx) 0 0)) (point v (getD (take n idx) 1 0)) (point v (getD (take n idx) 2 0))
-    cross-is = rw (in-list 0 (omega arith), in-list 1 (omega arith), in-list 2 (omega arith)) hx
-
-    pub flat-cut : lt e x ≡ false → CutAs (finished v e (clippingOf (take n idx) c b)) c b b
-    flat-cut h = same-cut (finished-flat v e (clippingOf (take n idx) c b) x cross-is three h)
-
-    pub triangle-cut : (a : List ℕ) → length a ≡ length b → lt e x ≡ true
-        → WroteTriangles (c .triangles) (c .triangles + 1) (getD idx 0 0 ∷ getD idx 1 0 ∷ getD idx 2 0 ∷ []) b a
-        → CutAs (finished v e (clippingOf (take n idx) c b)) (record { triangles = c .triangles + 1; removed = c .removed }) b a
-    triangle-cut a hl h p =
-        let q = finished-triangle v e (clippingOf (take n idx) c b) x cross-is three h in
-        let l : getD idx 0 0 ∷ getD idx 1 0 ∷ getD idx 2 0 ∷ [] ≡ take 3 (take n idx) =
-        rw (← in-list 0 (omega arith), ← in-list 1 (omega arith), ← in-list 2 (omega arith)) (three-of (take n idx) three) in
-        cut-as (finished v e (clippingOf (take n idx) c b)) (record { triangles = c .triangles + 1; removed = c .removed }) b a
-        (p .front ∙ ap (λ (r : List ℕ). take (3 * c .triangles) b ++ r) l ∙ ap (λ (r : Clipping). r .triangles) (sym q))
-        (p .rest)
-        (omega (arith, m .room))
-        (ap (λ (r : Clipping). r .removed) (sym q))
+  pub three-cut : {r : Cut} {a : List ℕ} → n ≡ 3 → CutAs (finished v e (clippingOf (getD idx 0 0 ∷ getD idx 1 0 ∷ getD idx 2 0 ∷ []) c b)) r b a
+      → CutAs (finished v e (clippingOf (take n idx) c b)) r b a
+  three-cut h3 p =
+      let l : getD idx 0 0 ∷ getD idx 1 0 ∷ getD idx 2 0 ∷ [] ≡ take n idx =
+      rw (← idx-at v idx n s 0 (omega arith), ← idx-at v idx n s 1 (omega arith), ← idx-at v idx n s 2 (omega arith)) (three-of (take n idx) (idx-length v idx n s ∙ h3)) in
+      rw l at p
 
 -- ---- the whole
 
@@ -292,6 +295,13 @@ pub passes-start : (v : List Float) (e : Float) (c : Remaining) (n : ℕ) (out :
     → passes (c .m * c .m) v e (clippingOf (idxOf c) none out) ≡ passes (n * n) v e (start n)
 unfolding start
 passes-start v e c n out hm hi = ap (λ (m : ℕ). passes (m * m) v e (clippingOf (idxOf c) none out)) hm ∙ ap (passes (n * n) v e) (clipping-eq hi refl refl)
+
+-- three corners need no pass
+pub three-start : (v : List Float) (e : Float) (n : ℕ) (out : List ℕ) → n ≡ 3 → clippingOf (0 ∷ 1 ∷ 2 ∷ []) none out ≡ passes (n * n) v e (start n)
+unfolding start counting
+three-start v e n out h =
+    let s = clippingOf (0 ∷ 1 ∷ 2 ∷ []) none out in
+    sym (passes-done v e s (n * n) (omega arith)) ∙ ap (passes (n * n) v e) (ap start (sym h))
 
 module _ (v : List Float) where
   pub triangulate-few : (b : List ℕ) → length v / 2 < 3 → CutAs (triangulatePolygon v) (record { triangles = 0; removed = 0 }) b b

@@ -1,80 +1,15 @@
--- How the clipper's arrays follow the definition's lists: a triangle is written, corners are counted and removed, the rest is fanned. Assumes nothing.
-use Prim.Native.Nat.{ℕ, zero, suc, _+_, _-_, _*_, _<_, _≤_}
+-- How the triangle slice follows the definition's list: a triangle is written, the rest is fanned. Assumes nothing.
+use Prim.Native.Nat.{ℕ, suc, _+_, _-_, _*_, _<_, _≤_}
 use mathlib.Core.Path.{_≡_, refl, sym, ap, _∙_}
 use mathlib.Core.List.{List, [], _∷_, _++_, append-assoc, append-nil}
 use native.Mathlib.Numerals.{add-one}
-use native.Mathlib.Nat.{add-zero, add-suc, suc-add, zero-add, not-suc-le-zero, le-of-suc-le-suc}
-use native.Mathlib.Decide.{decLt}
+use native.Mathlib.Nat.{not-suc-le-zero}
 use native.Mathlib.Omega.{arith}
-use lib.ListN.{length, getD, take, drop, set, length-append, length-drop, length-set, drop-of-length-le, List·getD-append}
-use lib.Seq.{drop-cons, take-suc, take-suc-set, drop-set-lt, getD-drop, getD-take, length-take-le, take-take, drop-drop, take-add, take-at, drop-at}
-use lib.Seq.{take-append-add, getD-append-add}
-use lib.Ieee.{Float}
+use lib.ListN.{length, getD, take, drop, set, length-set, drop-of-length-le}
+use lib.Seq.{drop-cons, take-suc-set, drop-set-lt}
 use Rattle.slice_law.specs.Lists.{drop-further}
-use Rattle.outline_ears.specs.Ears.{counting}
-use Rattle.outline_ears.specs.Inside.{Inside}
-use Rattle.outline_ears.proofs.Laws.{idx-length, idx-at}
-use Rattle.outline_triangulate.specs.Triangulate.{without, fans, fan}
-use Rattle.outline_triangulate.specs.Slices.{idxOf, WroteTriangles}
-use Rattle.outline_triangulate.specs.declared.Remaining.{Remaining}
-
--- ---- a corner goes
-
-pub take-drop : (n m : ℕ) (l : List ℕ) → n ≤ length l → drop n (take (n + m) l) ≡ take m (drop n l)
-take-drop n m l h = rw (take-add n m l) (drop-at (take n l) (take m (drop n l)) n (length-take-le n l h))
-
-module _ (k : ℕ) (l : List ℕ) where
-  pub length-without : k < length l → length (without k l) ≡ length l - 1
-  unfolding without
-  length-without h =
-      let n : length (take k l) ≡ k = length-take-le k l (omega arith) in
-      simp (length-append, length-drop) (omega arith)
-
-  pub getD-without : (i : ℕ) → k ≤ i → k < length l → getD (without k l) i 0 ≡ getD l (i + 1) 0
-  unfolding without
-  getD-without i h hl =
-      let n : length (take k l) ≡ k = length-take-le k l (omega arith) in
-      let s : i ≡ length (take k l) + (i - k) = omega arith in
-      let t : suc k + (i - k) ≡ i + 1 = omega arith in
-      ap (λ (j : ℕ). getD (take k l ++ drop (suc k) l) j 0) s
-      ∙ getD-append-add (take k l) (drop (suc k) l) (i - k) 0
-      ∙ getD-drop (suc k) l (i - k) 0
-      ∙ ap (λ (j : ℕ). getD l j 0) t
-
-  pub take-without : (i : ℕ) → k ≤ i → i < length l → take i (without k l) ≡ without k (take (i + 1) l)
-  unfolding without
-  take-without i h hl =
-      let n : length (take k l) ≡ k = length-take-le k l (omega arith) in
-      let s : i ≡ length (take k l) + (i - k) = omega arith in
-      let t : suc k + (i - k) ≡ i + 1 = omega arith in
-      ap (λ (j : ℕ). take j (take k l ++ drop (suc k) l)) s
-      ∙ take-append-add (take k l) (drop (suc k) l) (i - k)
-      ∙ ap (λ (r : List ℕ). take k l ++ r) (sym (take-drop (suc k) (i - k) l (omega arith)) ∙ ap (λ (j : ℕ). drop (suc k) (take j l)) t)
-      ∙ ap (λ (r : List ℕ). r ++ drop (suc k) (take (i + 1) l)) (sym (take-take k (i + 1) l (omega arith)))
-
--- one step of the loop that moves the corners down
-module _ (k i : ℕ) (l₀ l : List ℕ) (h : k ≤ i) (hl : i + 1 < length l₀) (n : length l ≡ length l₀) (done : take i l ≡ take i (without k l₀)) (rest : drop i l ≡ drop i l₀) where
-  moved : getD l (i + 1) 0 ≡ getD l₀ (i + 1) 0
-  moved = sym (getD-drop i l 1 0) ∙ ap (λ (r : List ℕ). getD r 1 0) rest ∙ getD-drop i l₀ 1 0
-
-  pub shift-done : take (i + 1) (set l i (getD l (i + 1) 0)) ≡ take (i + 1) (without k l₀)
-  shift-done =
-      let w : length (without k l₀) ≡ length l₀ - 1 = length-without k l₀ (omega arith) in
-      ap (λ (j : ℕ). take j (set l i (getD l (i + 1) 0))) (add-one i)
-      ∙ take-suc-set l i (getD l (i + 1) 0) (omega arith)
-      ∙ ap (λ (r : List ℕ). r ++ (getD l (i + 1) 0 ∷ [])) done
-      ∙ ap (λ (a : ℕ). take i (without k l₀) ++ (a ∷ [])) (moved ∙ sym (getD-without k l₀ i h (omega arith)))
-      ∙ sym (take-suc (without k l₀) i 0 (omega arith))
-      ∙ ap (λ (j : ℕ). take j (without k l₀)) (sym (add-one i))
-
-  pub shift-rest : drop (i + 1) (set l i (getD l (i + 1) 0)) ≡ drop (i + 1) l₀
-  shift-rest =
-      drop-set-lt (i + 1) l i (getD l (i + 1) 0) (omega arith)
-      ∙ sym (drop-drop 1 i l) ∙ ap (drop 1) rest ∙ drop-drop 1 i l₀
-
-pub take-short : (k : ℕ) (l : List ℕ) → k ≤ length l → take k (without k l) ≡ take k l
-unfolding without
-take-short k l h = take-at (take k l) (drop (suc k) l) k (length-take-le k l h)
+use Rattle.outline_triangulate.specs.Triangulate.{fans, fan}
+use Rattle.outline_triangulate.specs.Slices.{WroteTriangles}
 
 -- ---- a triangle is written
 
@@ -110,71 +45,6 @@ put-wrote t o a b c h =
       front = ap (λ (n : ℕ). take n (three (3 * t) o a b c h)) e ∙ three-front (3 * t) o a b c h;
       rest = ap (λ (n : ℕ). drop n (three (3 * t) o a b c h)) e ∙ three-rest (3 * t) o a b c h ∙ ap (λ (n : ℕ). drop n o) (sym e);
     }
-
--- ---- the corners are counted
-
-counting-snoc : (k i : ℕ) → counting k (suc i) ≡ counting k i ++ ((k + i) ∷ [])
-unfolding counting
-counting-snoc k zero = ap (λ (a : ℕ). a ∷ []) (sym (add-zero k))
-counting-snoc k (suc i) =
-    ap (λ (r : List ℕ). k ∷ r) (counting-snoc (suc k) i)
-    ∙ ap (λ (a : ℕ). k ∷ (counting (suc k) i ++ (a ∷ []))) (suc-add k i ∙ sym (add-suc k i))
-
-pub count-step : (l : List ℕ) (i : ℕ) → i < length l → take i l ≡ counting 0 i → take (i + 1) (set l i i) ≡ counting 0 (i + 1)
-count-step l i h e =
-    ap (λ (n : ℕ). take n (set l i i)) (add-one i)
-    ∙ take-suc-set l i i h
-    ∙ ap (λ (r : List ℕ). r ++ (i ∷ [])) e
-    ∙ ap (λ (a : ℕ). counting 0 i ++ (a ∷ [])) (sym (zero-add i))
-    ∙ sym (counting-snoc 0 i)
-    ∙ ap (counting 0) (sym (add-one i))
-
-pub counting-none : (l : List ℕ) → take 0 l ≡ counting 0 0
-unfolding counting
-counting-none l = refl
-
-counting-at : (k n i : ℕ) → i < n → getD (counting k n) i 0 ≡ k + i
-unfolding counting
-counting-at k zero i h = absurd (not-suc-le-zero h)
-counting-at k (suc n) zero h = sym (add-zero k)
-counting-at k (suc n) (suc i) h = counting-at (suc k) n i (le-of-suc-le-suc h) ∙ suc-add k i ∙ sym (add-suc k i)
-
-pub counting-inside : (v : List Float) (c : Remaining) → length (c .idx) ≡ 512 → c .m ≤ 512 → 2 * c .m ≤ length v → idxOf c ≡ counting 0 (c .m) → Inside v (c .idx) (c .m)
-counting-inside v c long small there e =
-    record {
-      long = long;
-      small = small;
-      there = λ i h.
-          let g : getD (c .idx) i 0 ≡ i =
-          sym (getD-take (c .m) (c .idx) i 0 h) ∙ ap (λ (l : List ℕ). getD l i 0) e ∙ counting-at 0 (c .m) i h ∙ zero-add i in
-          omega arith;
-    }
-
--- ---- the corners that remain are still corners
-
-getD-without-low : (k : ℕ) (l : List ℕ) (i : ℕ) → i < k → k ≤ length l → getD (without k l) i 0 ≡ getD l i 0
-unfolding without
-getD-without-low k l i h hl =
-    let n : length (take k l) ≡ k = length-take-le k l hl in
-    List·getD-append (take k l) (drop (suc k) l) 0 i (omega arith) ∙ getD-take k l i 0 h
-
-module _ (v : List Float) (c : Remaining) (l : List ℕ) (k : ℕ) (s : Inside v (c .idx) (c .m)) (h : k < c .m) (long : length l ≡ 512) (e : take (c .m - 1) l ≡ without k (idxOf c)) where
-  same-at : (i : ℕ) → i < c .m - 1 → getD l i 0 ≡ getD (without k (idxOf c)) i 0
-  same-at i hi = sym (getD-take (c .m - 1) l i 0 hi) ∙ ap (λ (r : List ℕ). getD r i 0) e
-
-  inside-by : (i : ℕ) → i < c .m - 1 → Dec (i < k) → 2 * getD l i 0 + 1 < length v
-  inside-by i hi (yes p) =
-      let hl : length (idxOf c) ≡ c .m = idx-length v (c .idx) (c .m) s in
-      let g : getD l i 0 ≡ getD (c .idx) i 0 = same-at i hi ∙ getD-without-low k (idxOf c) i p (omega arith) ∙ idx-at v (c .idx) (c .m) s i (omega arith) in
-      omega (arith, s .there i (omega arith))
-  inside-by i hi (no p) =
-      let hl : length (idxOf c) ≡ c .m = idx-length v (c .idx) (c .m) s in
-      let q : k ≤ i = omega (arith, p) in
-      let g : getD l i 0 ≡ getD (c .idx) (i + 1) 0 = same-at i hi ∙ getD-without k (idxOf c) i q (omega arith) ∙ idx-at v (c .idx) (c .m) s (i + 1) (omega arith) in
-      omega (arith, s .there (i + 1) (omega arith))
-
-  pub without-inside : Inside v l (c .m - 1)
-  without-inside = record { long = long; small = omega (arith, s .small); there = λ i hi. inside-by i hi (decLt i k) }
 
 -- ---- the fan
 

@@ -5,16 +5,14 @@ use mathlib.Core.List.{List, [], _++_}
 use lib.ListN.{length, take, drop}
 use lib.Ieee.{Float}
 use Rattle.outline_ears.specs.Inside.{Inside}
-use Rattle.outline_triangulate.specs.Triangulate.{Clipping, without, pass, passes}
-use Rattle.outline_triangulate.specs.declared.Remaining.{Remaining}
+use Rattle.outline_remaining.specs.declared.Remaining.{Remaining}
+use Rattle.outline_remaining.specs.Without.{without}
+use Rattle.outline_remaining.specs.Removed.{idxOf}
+use Rattle.outline_triangulate.specs.Triangulate.{Clipping, pass, passes}
 use Rattle.outline_triangulate.specs.declared.Cut.{Cut}
 use Rattle.outline_triangulate.specs.declared.Trimmed.{Trimmed}
 use Rattle.outline_triangulate.specs.declared.Passed.{Passed}
 use Rattle.outline_triangulate.specs.declared.Passed.the-variants.{Without, Fanned}
-
--- the Rust's idx, of the code's array and count
-abbrev pub idxOf : Remaining → List ℕ
-idxOf c = take (c .m) (c .idx)
 
 -- the triangles from t up to t' of a are those of new; those before are b's, and so is what comes after
 pub record WroteTriangles (t t' : ℕ) (new b a : List ℕ) : Type 0 where

@@ -3,7 +3,7 @@
 use Prim.Native.Nat.{ℕ, zero, suc, _+_, _*_, _/_}
 use mathlib.Core.Bool.{cond, _&&_}
 use mathlib.Core.List.{List, [], _∷_, _++_}
-use lib.ListN.{length, getD, take, drop}
+use lib.ListN.{length, getD, take}
 use lib.Dec.{ltb, eqb}
 use lib.Ieee.{Float, lt}
 use Rattle.outline.specs.Corners.{point}
@@ -11,16 +11,13 @@ use Rattle.outline_triangle.specs.Triangle.{cross, tolerance}
 use Rattle.outline_ears.specs.Ears.{ip, inx, counting, firstEar, firstFlat}
 use Rattle.outline_ears.specs.declared.Found.{Found}
 use Rattle.outline_ears.specs.declared.Found.the-variants.{At, Nothing}
+use Rattle.outline_remaining.specs.Without.{without}
 
 -- a state of the clipper: the Rust's idx, its out as a list of numbers, and the number of corners that were clipped or dropped one by one (S21)
 pub record Clipping : Type 0 where
   pub idx : List ℕ
   pub triangles : List ℕ
   pub removed : ℕ
-
--- the Rust's idx.remove(k)
-unfoldable pub without : ℕ → List ℕ → List ℕ
-without k idx = take k idx ++ drop (suc k) idx
 
 -- out.push([ip, ic, inx]) and idx.remove(k): the ear at index k goes, and its triangle is given
 unfoldable pub clipped : Clipping → ℕ → Clipping

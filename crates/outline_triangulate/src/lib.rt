@@ -2,13 +2,8 @@
 mod lists;
 mod passes;
 
+use outline_remaining::Remaining;
 pub use passes::triangulate_polygon;
-
-// The Rust's idx, the numbers of the corners that remain: the first m numbers of the array.
-pub(crate) struct Remaining {
-    pub idx: [u32; 512],
-    pub m: usize,
-}
 
 // How many triangles were given, and how many corners were removed singly.
 pub struct Cut {

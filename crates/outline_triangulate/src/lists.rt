@@ -1,42 +1,10 @@
-// The lists that the clipper writes: the Rust's idx and out.
+// The triangles that the clipper writes: the Rust's out.
 ghost use mathlib.Core.Path.{_≡_};
 ghost use mathlib.Core.List.{[], _∷_};
 ghost use Prim.Native.Nat.{_+_, _-_, _*_, _<_, _≤_, _^_};
 ghost use lib.ListN.{length, take};
-ghost use Rattle.outline_ears.specs.Ears.{counting as counting·};
-ghost use Rattle.outline_triangulate.specs.Triangulate.{without, fan as fan·};
-ghost use Rattle.outline_triangulate.specs.Slices.{idxOf, WroteTriangles};
-use crate::Remaining;
-
-// The Rust's (0..n).collect(): the numbers 0 to n - 1.
-pub fn counting(n: usize) -> Remaining
-    requires { ⌜ n ≤ 512 ⌝ }
-    ensures { λ r. ⌜ (r .m ≡ n) × (length (r .idx) ≡ 512) × (idxOf r ≡ counting· 0 n) ⌝ }
-{
-    let mut out = Remaining {
-        idx: [0; 512],
-        m: n,
-    };
-    let mut i = 0;
-    while i < n {
-        out.idx[i] = i as u32;
-        i += 1;
-    }
-    out
-}
-
-// The Rust's idx.remove(k), in place: idx is the first m numbers of the array, and then the first m - 1.
-pub fn remove(idx: &mut [u32; 512], m: usize, k: usize)
-    requires { ⌜ (k < m) × (m ≤ 512) × (length (now idx) ≡ 512) ⌝ }
-    ensures { λ _. ⌜ (length (now (idx .exit)) ≡ 512) × (take (m - 1) (now (idx .exit)) ≡ without k (take m (now (idx .entry)))) ⌝ }
-{
-    let last = m - 1;
-    let mut i = k;
-    while i < last {
-        idx[i] = idx[i + 1];
-        i += 1;
-    }
-}
+ghost use Rattle.outline_triangulate.specs.Triangulate.{fan as fan·};
+ghost use Rattle.outline_triangulate.specs.Slices.{WroteTriangles};
 
 // Triangle t of out becomes a b c.
 pub fn put(out: &mut [u32], t: usize, a: u32, b: u32, c: u32)

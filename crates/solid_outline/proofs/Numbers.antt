@@ -15,7 +15,8 @@ use Rattle.outline_ears.specs.declared.Found.{Found}
 use Rattle.outline_ears.specs.declared.Found.the-variants.{At, Nothing}
 use Rattle.outline_triangle.specs.Triangle.{cross, tolerance}
 use Rattle.outline_ears.specs.Ears.{ip, inx, counting, firstEar, firstFlat}
-use Rattle.outline_triangulate.specs.Triangulate.{Clipping, without, clipped, dropped, fans, fan, fanned, byFound, pass, passes, finished, start, triangulated}
+use Rattle.outline_remaining.specs.Without.{without}
+use Rattle.outline_triangulate.specs.Triangulate.{Clipping, clipped, dropped, fans, fan, fanned, byFound, pass, passes, finished, start, triangulated}
 use Rattle.outline_triangulate.specs.Triangulate.{triangulatePolygon}
 use Rattle.solid_spec.specs.Polygons.{capTriangles}
 

@@ -19,7 +19,8 @@ use Rattle.outline.specs.Area.{wedge, sides, signedArea}
 use Rattle.outline_triangle.specs.Triangle.{cross as turn, largest, scale, tolerance, inTriangle, blocks}
 use Rattle.outline_ears.specs.Ears.{any, blocked, ip, inx}
 use Rattle.outline_ears.specs.Ears.{earAt, crossAt, isEar, isFlat, counting, find, firstEar, firstFlat}
-use Rattle.outline_triangulate.specs.Triangulate.{without, clipped, dropped, fans, fan, fanned, byFound, pass, passes, finished, start}
+use Rattle.outline_remaining.specs.Without.{without}
+use Rattle.outline_triangulate.specs.Triangulate.{clipped, dropped, fans, fan, fanned, byFound, pass, passes, finished, start}
 use Rattle.outline_triangulate.specs.Triangulate.{triangulated, triangulatePolygon}
 use Rattle.mesh_spec.specs.Parts.{Soup}
 use Rattle.shape_arc.specs.Arc.{countedSpan, arcShare, arcSegments, fullSpan, isFull}

@@ -18,7 +18,8 @@ use Rattle.outline.specs.Clean.{endsIn, pushed, gathered, stay, cleanPolygon}
 use Rattle.outline_triangle.specs.Triangle.{cross as turn, largest, scale, tolerance, inTriangle, blocks}
 use Rattle.outline_ears.specs.Ears.{any, blocked, ip, inx, earAt, crossAt, isEar, isFlat}
 use Rattle.outline_ears.specs.Ears.{counting, find, firstEar, firstFlat}
-use Rattle.outline_triangulate.specs.Triangulate.{Clipping, without, clipped, dropped, fans, fan, fanned, byFound, pass, passes, finished, start, triangulated}
+use Rattle.outline_remaining.specs.Without.{without}
+use Rattle.outline_triangulate.specs.Triangulate.{Clipping, clipped, dropped, fans, fan, fanned, byFound, pass, passes, finished, start, triangulated}
 use Rattle.outline_triangulate.specs.Triangulate.{triangulatePolygon}
 use Rattle.mesh_spec.specs.Mesh.{Mesh, noMesh, plusZeroV, samePoint, firstSight, withPoint, weldTriangle, weldSoup, fromSoup, append, appendParts, fromParts}
 use Rattle.mesh_spec.specs.Measures.{triangleSoup, sumOf, volumeTerm, areaTerm, signedVolume, area}

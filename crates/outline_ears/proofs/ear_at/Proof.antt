@@ -1,6 +1,5 @@
 -- `outline_ears::ear_at` meets its contract. Assumes nothing.
 use denote.Ref.{now}
-use native.Mathlib.Omega.{arith}
 use Rattle.outline_ears.proofs.Laws.{ear-is}
 use borrow.Author.Needs.{needs}
 use Rattle.outline_ears.proofs.ear_at.Statement.{statement}

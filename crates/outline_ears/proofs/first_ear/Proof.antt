@@ -10,16 +10,16 @@ use Rattle.outline_ears.proofs.first_ear.Statement.{statement}
 use Rattle.outline_ears.proofs.first_ear.Tie as tie
 
 abbrev Inv-loop : tie.InvT-loop
-Inv-loop v eps idx m k₀ k = (k ≤ m) × (find (isEar v eps (take m idx)) (counting k (m - k)) ≡ firstEar v eps (take m idx))
+Inv-loop v eps idx kinds m k₀ k = (k ≤ m) × (find (isEar v eps (take m idx)) (counting k (m - k)) ≡ firstEar v eps (take m idx))
 
 abbrev μ-loop : tie.MeasureT-loop
-μ-loop v eps idx m k₀ k = m - k
+μ-loop v eps idx kinds m k₀ k = m - k
 
 loop-holds : tie.Need-loop-holds Inv-loop μ-loop
-loop-holds c = let d = c .before in (omega arith, firstEar-is (now (d .args .v)) (now (d .args .idx)) (d .args .m) (d .pre) (d .args .eps))
+loop-holds c = let d = c .before in (omega arith, firstEar-is (now (d .args .v)) (now (d .args .idx)) (d .args .m) (d .pre .0) (d .args .eps))
 
 is-ear-requires : tie.Need-is-ear-requires Inv-loop μ-loop
-is-ear-requires c κs = (c .loop-test .taken, c .before .before .before .pre)
+is-ear-requires c κs = let d = c .before .before .before in (c .loop-test .taken, d .pre .0, d .pre .1)
 
 returns : tie.Need-returns Inv-loop μ-loop
 returns c =
@@ -29,7 +29,7 @@ returns c =
     sym (find-here p (d .args .m) (l .k) (c .before .before .loop-test .taken) (sym (c .before .is-ear .ensures) ∙ c .if1 .taken)) ∙ l .inv .1
 
 add-k : tie.Need-add-k Inv-loop μ-loop
-add-k c = omega (arith, c .before .before .before .before .before .pre .small)
+add-k c = omega (arith, c .before .before .before .before .before .pre .0 .small)
 
 loop-less : tie.Need-loop-less Inv-loop μ-loop
 loop-less c = omega arith

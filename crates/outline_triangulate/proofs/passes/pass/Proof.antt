@@ -1,5 +1,7 @@
 -- `outline_triangulate::passes::pass` meets its contract. Assumes nothing.
 use denote.Ref.{now}
+use mathlib.Core.Path.{_∙_}
+use Rattle.outline_ears.proofs.Laws.{firstFlat-by}
 use Rattle.outline_triangulate.proofs.Steps.{ear-below, clip-passing, drop-passing, fan-passing}
 use borrow.Author.Needs.{needs}
 use Rattle.outline_triangulate.proofs.passes.pass.Statement.{statement}
@@ -20,11 +22,11 @@ ear-at-requires c κs =
 put-requires : tie.Need-put-requires
 put-requires c κs = search needs
 
-add-t18 : tie.Need-add-t18
-add-t18 c = search needs
-
 add-t19 : tie.Need-add-t19
 add-t19 c = search needs
+
+add-t20 : tie.Need-add-t20
+add-t20 c = search needs
 
 enum-told : tie.Need-enum-told
 enum-told c = search needs
@@ -35,8 +37,8 @@ first-flat-requires c κs = search needs
 enum-known-k-2 : tie.Need-enum-known-k-2
 enum-known-k-2 c = search needs
 
-add-t23 : tie.Need-add-t23
-add-t23 c = search needs
+add-t24 : tie.Need-add-t24
+add-t24 c = search needs
 
 enum-told-2 : tie.Need-enum-told-2
 enum-told-2 c = search needs
@@ -53,7 +55,7 @@ returns c =
     let s = c .before .before .before .before .before .before .before .before in
     let d = s .before .before .before in
     let a = d .args in
-    clip-passing (now (a .v)) (a .eps) (now (a .idx)) (a .m) (a .cut) (now (a .out)) (d .pre .0) (d .pre .1) (d .pre .2) (s .first-ear .ensures)
+    clip-passing (now (a .v)) (a .eps) (now (a .idx)) (a .m) (a .cut) (now (a .out)) (d .pre .0) (d .pre .1) (d .pre .3) (s .first-ear .ensures)
     _ _ _ (c .before .before .before .before .before .before .k .given .1) (c .before .before .before .before .ear-at .ensures) (p .kept .0) (p .ensures)
 
 returns-2 : tie.Need-returns-2
@@ -61,8 +63,8 @@ returns-2 c =
     let s = c .before .before .before .before .before .before in
     let d = s .before .before .before in
     let a = d .args in
-    drop-passing (now (a .v)) (a .eps) (now (a .idx)) (a .m) (a .cut) (now (a .out)) (d .pre .0) (d .pre .1) (d .pre .2) (s .first-ear .ensures)
-    _ (c .before .before .before .before .enum-told .given .1) (c .before .before .before .first-flat .ensures) (c .before .k2 .given .1)
+    drop-passing (now (a .v)) (a .eps) (now (a .idx)) (a .m) (a .cut) (now (a .out)) (d .pre .0) (d .pre .1) (d .pre .3) (s .first-ear .ensures)
+    _ (c .before .before .before .before .enum-told .given .1) (c .before .before .before .first-flat .ensures ∙ firstFlat-by (now (a .v)) (a .eps) (now (a .idx)) (now (a .kinds)) (a .m) (d .pre .1) (d .pre .2)) (c .before .k2 .given .1)
 
 same-length-2 : tie.Need-same-length-2
 same-length-2 c = search needs
@@ -74,8 +76,8 @@ returns-3 c =
     let s = flat .before .before .before in
     let d = s .before .before .before in
     let a = d .args in
-    fan-passing (now (a .v)) (a .eps) (now (a .idx)) (a .m) (a .cut) (now (a .out)) (d .pre .0) (d .pre .1) (d .pre .2) (s .first-ear .ensures)
-    _ _ (flat .before .enum-told .given .1) (flat .first-flat .ensures) (c .before .before .before .before .enum-told2 .given .1) (p .kept .1 .1 .1 .0) (p .ensures)
+    fan-passing (now (a .v)) (a .eps) (now (a .idx)) (a .m) (a .cut) (now (a .out)) (d .pre .0) (d .pre .1) (d .pre .3) (s .first-ear .ensures)
+    _ _ (flat .before .enum-told .given .1) (flat .first-flat .ensures ∙ firstFlat-by (now (a .v)) (a .eps) (now (a .idx)) (now (a .kinds)) (a .m) (d .pre .1) (d .pre .2)) (c .before .before .before .before .enum-told2 .given .1) (p .kept .1 .1 .1 .0) (p .ensures)
 
 pub pass-spec : {M : Type 1} → statement M
 pass-spec =
@@ -85,12 +87,12 @@ pass-spec =
     enum-known-k
     ear-at-requires
     put-requires
-    add-t18
     add-t19
+    add-t20
     enum-told
     first-flat-requires
     enum-known-k-2
-    add-t23
+    add-t24
     enum-told-2
     fan-requires
     same-length

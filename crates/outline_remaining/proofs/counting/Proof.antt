@@ -1,13 +1,13 @@
--- `outline_triangulate::lists::counting` meets its contract. Assumes nothing.
+-- `outline_remaining::counting` meets its contract. Assumes nothing.
 use mathlib.Core.Path.{_≡_, refl, ap, _∙_}
 use native.Mathlib.Omega.{arith}
 use Prim.Native.Nat.{ℕ, _≤_, _-_}
 use mathlib.Core.List.{[]}
 use lib.ListN.{length, take, length-set}
 use Rattle.outline_ears.specs.Ears.{counting}
-use Rattle.outline_triangulate.proofs.Writing.{counting-none, count-step}
-use Rattle.outline_triangulate.proofs.lists.counting.Statement.{statement}
-use Rattle.outline_triangulate.proofs.lists.counting.Tie as tie
+use Rattle.outline_remaining.proofs.Counted.{counting-none, count-step}
+use Rattle.outline_remaining.proofs.counting.Statement.{statement}
+use Rattle.outline_remaining.proofs.counting.Tie as tie
 
 abbrev Inv-loop : tie.InvT-loop
 Inv-loop n out₀ i₀ out i = (i ≤ n) × (out .m ≡ n) × (length (out .idx) ≡ 512) × (take i (out .idx) ≡ counting 0 i)
