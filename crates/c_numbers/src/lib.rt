@@ -1,6 +1,5 @@
 // The root, the sine and the cosine, for programs in other languages: tests/numbers links them.
 ghost use mathlib.Core.Path.{_≡_};
-ghost use lib.Ieee.{binary64};
 ghost use Rattle.root.specs.Rounded.{Root};
 ghost use Rattle.trig.specs.Trig.{sinCos};
 

@@ -17,6 +17,7 @@ pub fn put_border(out: &mut [u8], at: usize, closed: bool) -> usize
     put(out, at, b", open\n")
 }
 
+// The area and the signed volume.
 pub fn put_measures(out: &mut [u8], at: usize, area: Measured, signed_volume: Measured) -> usize
     ensures { λ r. ⌜ Puts (measuresOf area «signed_volume») (line (now (out .entry)) at) (line (now (out .exit)) r) ⌝ }
 {

@@ -1,3 +1,3 @@
--- The definitions that the contracts of `math_matrix` cite.
+-- The definitions that the contracts of `math_matrix` and `math_matrix_ops` cite.
 pub mod Mat
 pub mod MatLaws

@@ -1,4 +1,4 @@
-// Matrices of four rows and columns: `impl Mat4` of src/math.rs.
+// Matrices of four rows and columns: rows, the identity, translation and scaling of `impl Mat4` of src/math.rs.
 ghost use mathlib.Core.Path.{_≡_};
 ghost use Prim.Native.Nat.{_<_};
 ghost use Rattle.math_matrix.specs.Mat as Mat;

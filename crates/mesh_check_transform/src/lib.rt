@@ -28,7 +28,12 @@ fn move_refusal(
     if op_count == 0 {
         return Refusal::Accepted;
     }
-    if !mesh_stay_finite::keep_finite(vertices, n, transform::fold(ops, op_count, degrees), small) {
+    if !mesh_stay_finite::tested_stay_finite(
+        vertices,
+        n,
+        transform::fold(ops, op_count, degrees),
+        small,
+    ) {
         return Refusal::PointNotFinite;
     }
     Refusal::Accepted

@@ -1,2 +1,2 @@
--- What the contracts of `mesh_move_affine` cite.
+-- What the contracts of `mesh_move_affine` and of crates above it cite.
 pub mod Affine

@@ -26,8 +26,8 @@ fn stay_finite_divided(vertices: &[f64], n: usize, a: Mat4) -> bool
 }
 
 // Whether the first n vertices, which are finite, are so after the matrix. None is computed where `small` says that they
-// lie within the bounds and the matrix is bounded too.
-pub fn keep_finite(vertices: &[f64], n: usize, a: Mat4, small: bool) -> bool
+// lie within ±2^400 and the matrix is bounded too.
+pub fn tested_stay_finite(vertices: &[f64], n: usize, a: Mat4, small: bool) -> bool
     requires { ⌜ Tested (now vertices) n small ⌝ }
     ensures { λ r. ⌜ r ≡ every vFinite (map (transformPoint a) (points (take (3 * n) (now (vertices .entry))))) ⌝ }
 {
@@ -46,10 +46,10 @@ pub fn stay_finite(vertices: &[f64], n: usize, a: Mat4) -> bool
     ensures { λ r. ⌜ r ≡ every vFinite (map (transformPoint a) (points (take (3 * n) (now (vertices .entry))))) ⌝ }
 {
     if slice_bounded::all_bounded(vertices, 3 * n) {
-        return keep_finite(vertices, n, a, true);
+        return tested_stay_finite(vertices, n, a, true);
     }
     if slice::all_finite(vertices, 3 * n) {
-        return keep_finite(vertices, n, a, false);
+        return tested_stay_finite(vertices, n, a, false);
     }
     stay_finite_divided(vertices, n, a)
 }

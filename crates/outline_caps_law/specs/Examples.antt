@@ -8,7 +8,7 @@ use lib.Count.{trailingZeros}
 use Rattle.ieee.specs.Number.{absolute, maximum}
 use Rattle.outline.specs.Corners.{point, same}
 use Rattle.outline_triangle.specs.Triangle.{cross, largest, scale, tolerance, inTriangle, blocks}
-use Rattle.outline_ears.specs.Ears.{any, blocked, ip, inx, earAt, crossAt, isEar, isFlat, counting, find}
+use Rattle.outline_ears.specs.Ears.{any, blocked, ip, inx, triangleAt, crossAt, isEar, isFlat, counting, find}
 use Rattle.outline_ears.specs.Ears.{firstEar, firstFlat}
 use Rattle.outline_remaining.specs.Without.{without}
 use Rattle.outline_triangulate.specs.Triangulate.{clipped, dropped, fans, fan, fanned, byFound, pass, passes, finished, start, triangulated}
@@ -28,14 +28,14 @@ n3 = fin false 3 (pos 0)
 
 -- docs/SCOPE.md, F4: the square
 pub square : triangulatePolygon (n0 ∷ n0 ∷ n1 ∷ n0 ∷ n1 ∷ n1 ∷ n0 ∷ n1 ∷ []) ≡ record { idx = []; triangles = 3 ∷ 0 ∷ 1 ∷ 1 ∷ 2 ∷ 3 ∷ []; removed = 1 }
-unfolding triangulatePolygon triangulated passes finished start pass byFound fanned dropped clipped without firstEar firstFlat isEar isFlat earAt crossAt
+unfolding triangulatePolygon triangulated passes finished start pass byFound fanned dropped clipped without firstEar firstFlat isEar isFlat triangleAt crossAt
     blocked blocks point same eq inTriangle cross tolerance scale maximum absolute largest isNan any find counting ip inx fan fans sub mul neg add sum round
     size span climb units odd lt le ofBits ofFields trailingZeros
 square = refl
 
 -- docs/SCOPE.md, F5: corners on a line
 pub line : triangulatePolygon (n0 ∷ n0 ∷ n1 ∷ n0 ∷ n2 ∷ n0 ∷ n3 ∷ n0 ∷ []) ≡ record { idx = 1 ∷ 2 ∷ 3 ∷ []; triangles = []; removed = 1 }
-unfolding triangulatePolygon triangulated passes finished start pass byFound fanned dropped clipped without firstEar firstFlat isEar isFlat earAt crossAt
+unfolding triangulatePolygon triangulated passes finished start pass byFound fanned dropped clipped without firstEar firstFlat isEar isFlat triangleAt crossAt
     blocked blocks point same eq inTriangle cross tolerance scale maximum absolute largest isNan any find counting ip inx fan fans sub mul neg add sum round
     size span climb units odd lt le ofBits ofFields trailingZeros
 line = refl

@@ -15,8 +15,8 @@ use Rattle.ieee.specs.Number.{absolute}
 use Rattle.outline.specs.declared.Point.{Point}
 use Rattle.outline.specs.Corners.{point}
 use Rattle.outline_triangle.specs.Triangle.{blocks}
-use Rattle.outline_triangle.specs.declared.Ear.{Ear}
-use Rattle.outline_ears.specs.Ears.{any, blocked, ip, inx, earAt, crossAt, isEar, isFlat, counting, find, firstEar, firstFlat}
+use Rattle.outline_triangle.specs.declared.Triangle.{Triangle}
+use Rattle.outline_ears.specs.Ears.{any, blocked, ip, inx, triangleAt, crossAt, isEar, isFlat, counting, find, firstEar, firstFlat}
 use Rattle.outline_ears.specs.Inside.{Inside}
 use Rattle.outline_ears.specs.Kinds.{kindOf, Kinds, isFlatOf, firstFlatOf}
 use Rattle.outline_ears.specs.declared.Found.{Found}
@@ -49,7 +49,7 @@ any-end : (p : ℕ → Bool) (l : List ℕ) (i : ℕ) → length l ≤ i → any
 unfolding any
 any-end p l i h = rw (drop-of-length-le l {i = i} h)
 
-pub blocked-is : (v : List Float) (e : Float) (t : Ear) (l : List ℕ) → any (blocks v e t) l ≡ blocked v e t l
+pub blocked-is : (v : List Float) (e : Float) (t : Triangle) (l : List ℕ) → any (blocks v e t) l ≡ blocked v e t l
 unfolding blocked
 blocked-is v e t l = refl
 
@@ -102,11 +102,11 @@ module _ (v : List Float) (idx : List ℕ) (n : ℕ) (s : Inside v idx n) where
   unfolding inx
   inx-is k h = rw idx-length (idx-at ((k + 1) % n) (mod-lt _ (omega arith)))
 
-  pub ear-is : (k : ℕ) → k < n → {p q : ℕ} → p ≡ (k + n - 1) % n → q ≡ (k + 1) % n → {a b c : Point} → a ≡ point v (getD idx p 0) → b ≡ point v (getD idx k 0)
+  pub triangle-is : (k : ℕ) → k < n → {p q : ℕ} → p ≡ (k + n - 1) % n → q ≡ (k + 1) % n → {a b c : Point} → a ≡ point v (getD idx p 0) → b ≡ point v (getD idx k 0)
       → c ≡ point v (getD idx q 0)
-      → _≡_ {A = Ear} (record { ip = getD idx p 0; ic = getD idx k 0; inx = getD idx q 0; a = a; b = b; c = c }) (earAt v (take n idx) k)
-  unfolding earAt
-  ear-is k h hp hq ha hb hc = rw (ip-is k h, idx-at k h, inx-is k h, ha, hb, hc, hp, hq)
+      → _≡_ {A = Triangle} (record { ip = getD idx p 0; ic = getD idx k 0; inx = getD idx q 0; a = a; b = b; c = c }) (triangleAt v (take n idx) k)
+  unfolding triangleAt
+  triangle-is k h hp hq ha hb hc = rw (ip-is k h, idx-at k h, inx-is k h, ha, hb, hc, hp, hq)
 
   -- the number at index q passes the test, or it does not and the search goes on
   module _ (p : ℕ → Bool) (q : ℕ) where
@@ -182,7 +182,7 @@ module _ (v : List Float) (e : Float) (idx kinds : List ℕ) (n : ℕ) (s : Insi
     unfolding isEar
     isEar-not l = rw (← held, ne-eqb (getD kinds k 0) 2 l)
 
-    pub isEar-is : {t : Ear} {b : Bool} → getD kinds k 0 ≡ 2 → t ≡ earAt v (take n idx) k → b ≡ blocked v e t (take n idx)
+    pub isEar-is : {t : Triangle} {b : Bool} → getD kinds k 0 ≡ 2 → t ≡ triangleAt v (take n idx) k → b ≡ blocked v e t (take n idx)
         → not b ≡ isEar v e (take n idx) k
     unfolding isEar
     isEar-is l ht hb = rw (hb, ← held, eq-eqb (getD kinds k 0) 2 l, ht)

@@ -7,7 +7,7 @@ use lib.ListN.{length, getD}
 use lib.Ieee.{Float, le}
 use Rattle.ieee.specs.Number.{absolute}
 use Rattle.outline.specs.Corners.{point}
-use Rattle.outline_triangle.specs.declared.Ear.{Ear}
+use Rattle.outline_triangle.specs.declared.Triangle.{Triangle}
 use Rattle.outline_triangle.specs.Triangle.{cross, blocks}
 use Rattle.outline_ears.specs.declared.Found.{Found}
 use Rattle.outline_ears.specs.declared.Found.the-variants.{At, Nothing}
@@ -18,7 +18,7 @@ any p [] = false
 any p (o ∷ l) = p o || any p l
 
 -- the Rust's `blocked`
-unfoldable pub blocked : List Float → Float → Ear → List ℕ → Bool
+unfoldable pub blocked : List Float → Float → Triangle → List ℕ → Bool
 blocked v eps t idx = any (blocks v eps t) idx
 
 -- n numbers from k on; with k = 0 the Rust's 0..n
@@ -35,8 +35,8 @@ unfoldable pub inx : List ℕ → ℕ → ℕ
 inx idx k = getD idx ((k + 1) % length idx) 0
 
 -- the Rust's (ip, ic, inx) and (a, b, c)
-unfoldable pub earAt : List Float → List ℕ → ℕ → Ear
-earAt v idx k =
+unfoldable pub triangleAt : List Float → List ℕ → ℕ → Triangle
+triangleAt v idx k =
     record {
       ip = ip idx k;
       ic = getD idx k 0;
@@ -48,11 +48,11 @@ earAt v idx k =
 
 -- the Rust's cross(a, b, c) at index k
 unfoldable pub crossAt : List Float → List ℕ → ℕ → Float
-crossAt v idx k = cross (earAt v idx k .a) (earAt v idx k .b) (earAt v idx k .c)
+crossAt v idx k = cross (triangleAt v idx k .a) (triangleAt v idx k .b) (triangleAt v idx k .c)
 
--- the Rust skips on `cross <= eps`, so that a NaN counts as an ear's
+-- the corner at index k is an ear that nothing blocks. The Rust skips on `cross <= eps`, so that a NaN counts as an ear's
 unfoldable pub isEar : List Float → Float → List ℕ → ℕ → Bool
-isEar v eps idx k = not (le (crossAt v idx k) eps) && not (blocked v eps (earAt v idx k) idx)
+isEar v eps idx k = not (le (crossAt v idx k) eps) && not (blocked v eps (triangleAt v idx k) idx)
 
 -- the Rust's test in `find`: cross.abs() <= eps
 unfoldable pub isFlat : List Float → Float → List ℕ → ℕ → Bool

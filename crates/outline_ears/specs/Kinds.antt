@@ -10,8 +10,7 @@ use Rattle.ieee.specs.Number.{absolute}
 use Rattle.outline_ears.specs.Ears.{crossAt, find, counting}
 use Rattle.outline_ears.specs.declared.Found.{Found}
 
--- what a cross makes of its corner, by the Rust's tests: 2 where `cross <= eps` fails, as an ear's does; 1 where `cross.abs() <= eps` holds, which makes it
--- flat; 0 elsewhere
+-- what a cross makes of its corner, by the Rust's tests: 2, an ear, where `cross <= eps` fails; 1, flat, where `cross.abs() <= eps` holds; 0 elsewhere
 unfoldable pub kindOf : Float → Float → ℕ
 kindOf eps x = cond (le x eps) (cond (le (absolute x) eps) 1 0) 2
 

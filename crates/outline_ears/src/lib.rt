@@ -1,11 +1,11 @@
 // The searches of the ear clipper (src/tessellate.rs, triangulate_polygon). v is the corner list, two floats to a corner. The Rust's idx, the numbers of the
 // corners that remain, is the first m numbers of the array idx. The first m of kinds say what the Rust's cross makes of the corner
 // at each index, which the searches read.
-use outline_triangle::Ear;
+use outline_triangle::Triangle;
 ghost use mathlib.Core.Path.{_≡_};
 ghost use Prim.Native.Nat.{_+_, _-_, _%_, _<_, _≤_};
 ghost use lib.ListN.{length, take};
-ghost use Rattle.outline_ears.specs.Ears.{blocked as blocked·, earAt, isEar, firstEar};
+ghost use Rattle.outline_ears.specs.Ears.{blocked as blocked·, triangleAt, isEar, firstEar};
 ghost use Rattle.outline_ears.specs.Inside.{Inside};
 ghost use Rattle.outline_ears.specs.Kinds.{kindOf, Kinds, firstFlatOf};
 
@@ -15,11 +15,13 @@ pub enum Found {
     Nothing,
 }
 
-// What a cross makes of its corner: an ear, unless a corner blocks it; flat; or neither.
+// The kind of an ear, blocked or not.
 const EAR: u8 = 2;
 
+// The kind of a flat corner.
 const FLAT: u8 = 1;
 
+// The kind of any other corner.
 const NEITHER: u8 = 0;
 
 // The kind of a corner by its cross. A NaN is not <= eps, so it counts as an ear's.
@@ -36,7 +38,7 @@ pub fn kind_of(eps: f64, cross: f64) -> u8
 }
 
 // The Rust's blocked: whether some corner that remains keeps t from being clipped.
-fn blocked(v: &[f64], eps: f64, t: Ear, idx: &[u32; 512], m: usize) -> bool
+fn blocked(v: &[f64], eps: f64, t: Triangle, idx: &[u32; 512], m: usize) -> bool
     requires { ⌜ Inside (now v) (now idx) m ⌝ }
     ensures { λ r. ⌜ r ≡ blocked· (now (v .entry)) eps t (take m (now (idx .entry))) ⌝ }
 {
@@ -74,14 +76,14 @@ pub fn next(k: usize, m: usize) -> usize
 }
 
 // The corner at index k of idx and its neighbours there.
-pub fn ear_at(v: &[f64], idx: &[u32; 512], m: usize, k: usize) -> Ear
+pub fn triangle_at(v: &[f64], idx: &[u32; 512], m: usize, k: usize) -> Triangle
     requires { ⌜ (k < m) × Inside (now v) (now idx) m ⌝ }
-    ensures { λ r. ⌜ r ≡ earAt (now (v .entry)) (take m (now (idx .entry))) k ⌝ }
+    ensures { λ r. ⌜ r ≡ triangleAt (now (v .entry)) (take m (now (idx .entry))) k ⌝ }
 {
     let ip = idx[previous(k, m)];
     let ic = idx[k];
     let inx = idx[next(k, m)];
-    Ear {
+    Triangle {
         ip: ip,
         ic: ic,
         inx: inx,
@@ -114,7 +116,7 @@ fn is_ear(v: &[f64], eps: f64, idx: &[u32; 512], kinds: &[u8; 512], m: usize, k:
     if kinds[k] != EAR {
         return false;
     }
-    let t = ear_at(v, idx, m, k);
+    let t = triangle_at(v, idx, m, k);
     !blocked(v, eps, t, idx, m)
 }
 

@@ -10,8 +10,8 @@ use lib.Seq.{getD-take, getD-set-same, getD-set-other, length-take-le}
 use lib.Ieee.{Float}
 use Rattle.outline.specs.Corners.{point}
 use Rattle.outline_triangle.specs.Triangle.{cross}
-use Rattle.outline_triangle.specs.declared.Ear.{Ear}
-use Rattle.outline_ears.specs.Ears.{ip, inx, earAt, crossAt}
+use Rattle.outline_triangle.specs.declared.Triangle.{Triangle}
+use Rattle.outline_ears.specs.Ears.{ip, inx, triangleAt, crossAt}
 use Rattle.outline_ears.specs.Inside.{Inside}
 use Rattle.outline_ears.specs.Kinds.{kindOf, kindAt, Kinds}
 use Rattle.outline_ears.proofs.Laws.{previous-of-first, previous-of-later, next-of-last, next-of-earlier, idx-length, idx-at}
@@ -39,14 +39,14 @@ module _ (l : List ℕ) (j : ℕ) where
   inx-earlier h = ap (λ (i : ℕ). getD l i 0) (sym (next-of-earlier j (length l) h))
 
   pub cross-by : (v : List Float) (l' : List ℕ) (i : ℕ) → ip l' i ≡ ip l j → getD l' i 0 ≡ getD l j 0 → inx l' i ≡ inx l j → crossAt v l' i ≡ crossAt v l j
-  unfolding crossAt earAt
+  unfolding crossAt triangleAt
   cross-by v l' i a b c = λ t. cross (point v (a t)) (point v (b t)) (point v (c t))
 
 -- the kind of t, the corner at index k with its neighbours
-pub kind-is : (v : List Float) (e : Float) (l : List ℕ) (k : ℕ) {t : Ear} {x : Float} {y : ℕ} → t ≡ earAt v l k → x ≡ cross (t .a) (t .b) (t .c) → y ≡ kindOf e x
+pub kind-is : (v : List Float) (e : Float) (l : List ℕ) (k : ℕ) {t : Triangle} {x : Float} {y : ℕ} → t ≡ triangleAt v l k → x ≡ cross (t .a) (t .b) (t .c) → y ≡ kindOf e x
     → y ≡ kindAt v e l k
 unfolding crossAt
-kind-is v e l k ht hx hy = hy ∙ ap (kindOf e) (hx ∙ ap (λ (t : Ear). cross (t .a) (t .b) (t .c)) ht)
+kind-is v e l k ht hx hy = hy ∙ ap (kindOf e) (hx ∙ ap (λ (t : Triangle). cross (t .a) (t .b) (t .c)) ht)
 
 -- ---- the corner at index k of l goes, and j is an index of those that remain, which is neither of the two beside it: the cross there is the one that the same
 -- ---- corner had, at index j before it, or at j + 1

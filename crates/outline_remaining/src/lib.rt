@@ -1,5 +1,6 @@
-// The corners that remain in the ear clipper (src/tessellate.rs, triangulate_polygon), with what the kinds make of them, which its searches read. v is the
-// corner list, two floats to a corner. The Rust's idx is the first m numbers of the array idx, and the first m of kinds are the kinds of the corners there.
+// The corners that remain in the ear clipper (src/tessellate.rs, triangulate_polygon), with their kinds, what the crosses make of them, which its searches
+// read. v is the corner list, two floats to a corner. The Rust's idx is the first m numbers of the array idx, and the first m of kinds are the kinds of the
+// corners there.
 ghost use mathlib.Core.Path.{_≡_};
 ghost use Prim.Native.Nat.{_-_, _<_, _≤_};
 ghost use lib.ListN.{length, take};
@@ -37,7 +38,7 @@ fn kind_at(v: &[f64], eps: f64, idx: &[u32; 512], m: usize, k: usize) -> u8
     requires { ⌜ (k < m) × Inside (now v) (now idx) m ⌝ }
     ensures { λ r. ⌜ r ≡ kindAt (now (v .entry)) eps (take m (now (idx .entry))) k ⌝ }
 {
-    let t = outline_ears::ear_at(v, idx, m, k);
+    let t = outline_ears::triangle_at(v, idx, m, k);
     outline_ears::kind_of(eps, outline_triangle::cross(t.a, t.b, t.c))
 }
 
@@ -90,7 +91,8 @@ fn renew(v: &[f64], eps: f64, idx: &[u32; 512], kinds: &mut [u8; 512], m: usize,
     kinds[after] = kind_at(v, eps, idx, m, after);
 }
 
-// The Rust's idx.remove(k), in place: idx is the first m numbers of the array, and then the first m - 1.
+// The Rust's idx.remove(k), in place: idx is the first m numbers of the array, and then the first m - 1. The kinds move down likewise, and those of the two
+// corners beside it are made anew.
 pub fn remove(v: &[f64], eps: f64, idx: &mut [u32; 512], kinds: &mut [u8; 512], m: usize, k: usize)
     requires { ⌜ (1 < m) × (k < m) × Inside (now v) (now idx) m × Kinds (now v) eps (now idx) (now kinds) m ⌝ }
     ensures { λ _. ⌜ Removed (now (v .entry)) eps m k (now (idx .entry)) (now (idx .exit)) (now (kinds .exit)) ⌝ }

@@ -13,7 +13,7 @@ use Rattle.ieee.specs.Number.{absolute, maximum}
 use Rattle.outline.specs.declared.Point.{Point}
 use Rattle.outline.specs.Corners.{point, same}
 use Rattle.outline_triangle.specs.Triangle.{cross, largest, inTriangle, blocks}
-use Rattle.outline_triangle.specs.declared.Ear.{Ear}
+use Rattle.outline_triangle.specs.declared.Triangle.{Triangle}
 
 -- ---- the largest absolute value of a coordinate
 
@@ -55,7 +55,7 @@ module _ (v : List Float) (o : ℕ) {p : Point} (hp : p ≡ point v o) {r u : Bo
 
 -- ---- a corner that blocks an ear
 
-module _ (v : List Float) (e : Float) (t : Ear) (o : ℕ) where
+module _ (v : List Float) (e : Float) (t : Triangle) (o : ℕ) where
   pub blocks-outside : inTriangle e (t .a) (t .b) (t .c) (point v o) ≡ false → false ≡ blocks v e t o
   unfolding blocks
   blocks-outside h =

@@ -8,7 +8,7 @@ use lib.Ieee.{Float, binary64, sub, mul, neg, le, ofBits}
 use Rattle.ieee.specs.Number.{absolute, maximum}
 use Rattle.outline.specs.declared.Point.{Point}
 use Rattle.outline.specs.Corners.{point, same}
-use Rattle.outline_triangle.specs.declared.Ear.{Ear}
+use Rattle.outline_triangle.specs.declared.Triangle.{Triangle}
 
 -- the Rust's closure `cross`: (b - a) × (c - a)
 unfoldable pub cross : Point → Point → Point → Float
@@ -37,7 +37,7 @@ unfoldable pub inTriangle : Float → Point → Point → Point → Point → Bo
 inTriangle eps a b c p = le (neg eps) (cross a b p) && (le (neg eps) (cross b c p) && le (neg eps) (cross c a p))
 
 -- the Rust's closure in `any`: corner o is none of ip, ic and inx, its point equals none of a, b and c, and it is in their triangle
-unfoldable pub blocks : List Float → Float → Ear → ℕ → Bool
+unfoldable pub blocks : List Float → Float → Triangle → ℕ → Bool
 blocks v eps t o =
     not (eqb o (t .ip) || (eqb o (t .ic) || eqb o (t .inx)))
     && (not (same (point v o) (t .a) || (same (point v o) (t .b) || same (point v o) (t .c)))

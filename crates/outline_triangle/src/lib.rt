@@ -6,8 +6,8 @@ ghost use lib.ListN.{length};
 ghost use Rattle.outline.specs.Corners.{point};
 ghost use Rattle.outline_triangle.specs.Triangle.{cross as cross·, tolerance as tolerance·, inTriangle, blocks as blocks·};
 
-// The Rust's ip, ic and inx, the corner numbers at an index of idx and at the indices before and after it; and a, b and c, their points.
-pub struct Ear {
+// The Rust's ip, ic and inx: the corner numbers at the index before one of idx, at it, and at the one after it; and a, b and c, their points.
+pub struct Triangle {
     pub ip: u32,
     pub ic: u32,
     pub inx: u32,
@@ -47,7 +47,7 @@ pub fn tolerance(v: &[f64]) -> f64
 
 // Whether each of cross(a, b, p), cross(b, c, p) and cross(c, a, p) is at least -eps. Most corners lie beyond the side from c to a or that from b to c.
 // These two are one test, which takes less time where numbers overflow to infinities and NaNs. The order does not change the answer.
-pub fn in_triangle(eps: f64, a: Point, b: Point, c: Point, p: Point) -> bool
+fn in_triangle(eps: f64, a: Point, b: Point, c: Point, p: Point) -> bool
     ensures { λ r. ⌜ r ≡ inTriangle eps a b c p ⌝ }
 {
     if (cross(c, a, p) >= -eps) & (cross(b, c, p) >= -eps) {
@@ -57,7 +57,7 @@ pub fn in_triangle(eps: f64, a: Point, b: Point, c: Point, p: Point) -> bool
 }
 
 // Whether corner o keeps t from being clipped. Most corners lie outside, so that is asked first; the order does not change the answer.
-pub fn blocks(v: &[f64], eps: f64, t: Ear, o: u32) -> bool
+pub fn blocks(v: &[f64], eps: f64, t: Triangle, o: u32) -> bool
     requires { ⌜ 2 * o + 1 < length (now v) ⌝ }
     ensures { λ r. ⌜ r ≡ blocks· (now (v .entry)) eps t o ⌝ }
 {

@@ -12,8 +12,8 @@ use borrow.Author.Tests.{eq-eqb, ne-eqb, lt-ltb, le-ltb}
 use Rattle.slice_law.specs.Lists.{drop-further}
 use Rattle.outline.specs.Corners.{point}
 use Rattle.outline_triangle.specs.Triangle.{cross, tolerance}
-use Rattle.outline_triangle.specs.declared.Ear.{Ear}
-use Rattle.outline_ears.specs.Ears.{ip, inx, counting, earAt, isEar, isFlat, firstEar, firstFlat}
+use Rattle.outline_triangle.specs.declared.Triangle.{Triangle}
+use Rattle.outline_ears.specs.Ears.{ip, inx, counting, triangleAt, isEar, isFlat, firstEar, firstFlat}
 use Rattle.outline_ears.specs.Inside.{Inside}
 use Rattle.outline_ears.specs.Kinds.{Kinds}
 use Rattle.outline_ears.specs.declared.Found.{Found}
@@ -85,15 +85,15 @@ module _ (v : List Float) (e : Float) (idx : List ℕ) (n : ℕ) (s : Inside v i
 
 module _ (v : List Float) (e : Float) (idx : List ℕ) (n : ℕ) (c : Cut) (b : List ℕ) (h3 : 3 < n) (s : Inside v idx n) (m : Room n c b) {f : Found} (ear : f ≡ firstEar v e (take n idx)) where
   -- an ear is clipped
-  pub clip-passing : (k : ℕ) (x : Ear) (a : List ℕ) → f ≡ At k → x ≡ earAt v (take n idx) k → length a ≡ length b
+  pub clip-passing : (k : ℕ) (x : Triangle) (a : List ℕ) → f ≡ At k → x ≡ triangleAt v (take n idx) k → length a ≡ length b
       → WroteTriangles (c .triangles) (c .triangles + 1) (x .ip ∷ x .ic ∷ x .inx ∷ []) b a
       → Passing v e idx n c b (Without k (record { triangles = c .triangles + 1; removed = c .removed + 1 })) a
-  unfolding clipped earAt
+  unfolding clipped triangleAt
   clip-passing k x a at-k hx hl p =
       let h : k < n = ear-below v e idx n s k ear at-k in
       record {
         state =
-            clipping-eq refl (p .front ∙ ap (λ (y : Ear). take (3 * c .triangles) b ++ (y .ip ∷ y .ic ∷ y .inx ∷ [])) hx) refl
+            clipping-eq refl (p .front ∙ ap (λ (y : Triangle). take (3 * c .triangles) b ++ (y .ip ∷ y .ic ∷ y .inx ∷ [])) hx) refl
             ∙ pass-ear v e (clippingOf (take n idx) c b) k (sym ear ∙ at-k);
         rest = p .rest;
         grows = omega arith;

@@ -31,7 +31,7 @@ fn pass(
     let removed = cut.removed;
     match outline_ears::first_ear(v, eps, idx, kinds, m) {
         Found::At(k) => {
-            let ear = outline_ears::ear_at(v, idx, m, k);
+            let ear = outline_ears::triangle_at(v, idx, m, k);
             lists::put(out, t, ear.ip, ear.ic, ear.inx);
             Passed::Without(
                 k,

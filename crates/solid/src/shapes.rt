@@ -1,5 +1,4 @@
 // The match of tessellate in src/tessellate.rs.
-ghost use mathlib.Core.Path.{_≡_};
 ghost use Rattle.weld.specs.Rep.{held, Ready};
 ghost use Rattle.weld.specs.Parts.{PartsRun};
 ghost use Rattle.solid_spec.specs.Solid.{partsOf};

@@ -1,5 +1,4 @@
 // cylinder of src/tessellate.rs, streamed into the welder.
-ghost use mathlib.Core.Path.{_≡_};
 ghost use Prim.Native.Nat.{_≤_};
 ghost use Rattle.weld.specs.Rep.{held, Ready, Runs};
 ghost use Rattle.solid_spec.specs.Cylinder as Cylinder;

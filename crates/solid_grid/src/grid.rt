@@ -7,7 +7,6 @@ ghost use Rattle.surface.specs.Turns.{Tabled};
 ghost use Rattle.surface_spec.specs.Surface.{surfaceAt};
 ghost use Rattle.solid_spec.specs.Grid as Grid;
 use crate::guesses;
-use math::Vec3;
 use surface_spec::Surface;
 use weld::Welder;
 

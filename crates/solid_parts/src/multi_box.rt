@@ -1,5 +1,4 @@
 // The case MultiBox of tessellate in src/tessellate.rs: each box is welded by itself.
-ghost use mathlib.Core.Path.{_≡_};
 ghost use mathlib.Core.List.{[], _∷_};
 ghost use Prim.Native.Nat.{_+_, _-_, _*_, _/_, _≤_, _<_};
 ghost use lib.ListN.{length};

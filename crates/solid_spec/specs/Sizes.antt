@@ -18,7 +18,7 @@ use Rattle.outline.specs.Ccw.{swapped, reversed, ccwPolygon, prepared}
 use Rattle.outline.specs.Area.{wedge, sides, signedArea}
 use Rattle.outline_triangle.specs.Triangle.{cross as turn, largest, scale, tolerance, inTriangle, blocks}
 use Rattle.outline_ears.specs.Ears.{any, blocked, ip, inx}
-use Rattle.outline_ears.specs.Ears.{earAt, crossAt, isEar, isFlat, counting, find, firstEar, firstFlat}
+use Rattle.outline_ears.specs.Ears.{triangleAt, crossAt, isEar, isFlat, counting, find, firstEar, firstFlat}
 use Rattle.outline_remaining.specs.Without.{without}
 use Rattle.outline_triangulate.specs.Triangulate.{clipped, dropped, fans, fan, fanned, byFound, pass, passes, finished, start}
 use Rattle.outline_triangulate.specs.Triangulate.{triangulated, triangulatePolygon}
@@ -47,7 +47,7 @@ at a b c = new (float a) (float b) (float c)
 unfoldable outlines : ℕ → List Float → Float → Float → Soup
 unfolding extrudedPolygon extrudedFrom extrudedSides capTriangles ccwPolygon reversed signedArea sides wedge cleanPolygon gathered pushed endsIn stay point same
     triangulatePolygon triangulated passes finished start pass byFound fanned dropped clipped without fan fans counting
-    firstEar firstFlat isEar isFlat earAt crossAt blocked blocks inTriangle turn tolerance scale largest any find ip inx
+    firstEar firstFlat isEar isFlat triangleAt crossAt blocked blocks inTriangle turn tolerance scale largest any find ip inx
     minimum maximum absolute isNan eq ne lt le neg add sub mul div ofInt ofBits
 outlines = extrudedPolygon
 

@@ -1,5 +1,4 @@
 // sphere of src/tessellate.rs and the spherical shell, streamed into the welder.
-ghost use mathlib.Core.Path.{_≡_};
 ghost use Prim.Native.Nat.{_+_, _*_, _≤_, _<_};
 ghost use lib.ListN.{length};
 ghost use Rattle.weld.specs.Rep.{held, Ready, Runs};

@@ -9,7 +9,6 @@ ghost use Rattle.surface.specs.Turns.{RoundTabled, Tabled};
 ghost use Rattle.surface.specs.Pieces as Pieces;
 use crate::turns;
 use math::Vec3;
-use outline::Point;
 use surface_spec::Chart;
 use surface_spec::Line;
 use surface_spec::Surface;

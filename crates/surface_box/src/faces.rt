@@ -22,6 +22,7 @@ fn wraps(turns: bool, k: usize) -> bool
     if k == 1 { turns } else { false }
 }
 
+// The axis k of a box whose middle axis has n parts.
 pub fn line_of(lo: Vec3, hi: Vec3, n: usize, turns: bool, k: usize) -> Line
     ensures { λ r. ⌜ r ≡ lineOf lo hi (three 1 n 1) (three false turns false) k ⌝ }
 {

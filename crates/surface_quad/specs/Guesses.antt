@@ -5,7 +5,8 @@ use Prim.Native.Nat.{ℕ, suc, _+_, _-_, _*_, _/_, _%_, _^_}
 use lib.Dec.{eqb}
 use Rattle.surface_quad.specs.declared.FourNumbers.{FourNumbers}
 
--- a corner by the sum of 2 ^ k over the axes k of which it is at the high bound: here 1 is high and 0 is low, for the axis k and the two after it
+-- a corner as a number: the sum of 2 ^ a over the axes a at whose high bound it is; s, i and j, 1 for high and 0 for low, are those of the axis k and of the
+-- two after it
 abbrev pub corner : ℕ → ℕ → ℕ → ℕ → ℕ
 corner k s i j = s * 2 ^ k + i * 2 ^ ((k + 1) % 3) + j * 2 ^ ((k + 2) % 3)
 

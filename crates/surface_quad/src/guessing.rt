@@ -4,6 +4,7 @@ ghost use Prim.Native.Nat.{_<_, _^_};
 ghost use Rattle.surface_quad.specs.Guesses.{numbersFrom, guessesOf};
 use crate::FourNumbers;
 
+// Four numbers, counted from base.
 fn numbers_from(base: usize, a: usize, b: usize, c: usize, d: usize) -> FourNumbers
     requires { ⌜ (base < 2 ^ 32) × (a < 8) × (b < 8) × (c < 8) × (d < 8) ⌝ }
     ensures { λ r. ⌜ r ≡ numbersFrom base a b c d ⌝ }

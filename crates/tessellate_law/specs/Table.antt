@@ -16,7 +16,7 @@ use Rattle.math.specs.Vec.{vSub, vMin, vMax, dot, cross, normSq, norm}
 use Rattle.outline.specs.Corners.{point, same}
 use Rattle.outline.specs.Clean.{endsIn, pushed, gathered, stay, cleanPolygon}
 use Rattle.outline_triangle.specs.Triangle.{cross as turn, largest, scale, tolerance, inTriangle, blocks}
-use Rattle.outline_ears.specs.Ears.{any, blocked, ip, inx, earAt, crossAt, isEar, isFlat}
+use Rattle.outline_ears.specs.Ears.{any, blocked, ip, inx, triangleAt, crossAt, isEar, isFlat}
 use Rattle.outline_ears.specs.Ears.{counting, find, firstEar, firstFlat}
 use Rattle.outline_remaining.specs.Without.{without}
 use Rattle.outline_triangulate.specs.Triangulate.{Clipping, clipped, dropped, fans, fan, fanned, byFound, pass, passes, finished, start, triangulated}
@@ -147,7 +147,7 @@ areas = area
 
 unfoldable clips : List Float → Clipping
 unfolding triangulatePolygon triangulated passes finished start pass byFound fanned dropped clipped without fan fans counting firstEar firstFlat isEar
-    isFlat earAt crossAt blocked blocks inTriangle turn tolerance scale largest any find ip inx point same maximum absolute isNan eq lt le neg add sub mul
+    isFlat triangleAt crossAt blocked blocks inTriangle turn tolerance scale largest any find ip inx point same maximum absolute isNan eq lt le neg add sub mul
     ofInt ofBits
 clips = triangulatePolygon
 

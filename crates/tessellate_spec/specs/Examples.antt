@@ -223,7 +223,8 @@ unfolding computed above-1000
 unfolding computed above-1000 huge
 2-before-5 = refl
 
-5-before-7 : tessellateOf (boxBetween (new (neg huge) (float 0) (float 0)) (new huge (float 2) (float 3)) Cartesian 32 noOps 0) (of 0 0 0) .refusal ≡ PointNotFinite
+5-before-7 : tessellateOf (boxBetween (new (neg huge) (float 0) (float 0)) (new huge (float 2) (float 3)) Cartesian 32 noOps 0) (of 0 0 0) .refusal
+    ≡ PointNotFinite
 unfolding computed huge
 5-before-7 = refl
 

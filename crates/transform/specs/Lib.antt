@@ -1,4 +1,4 @@
--- The definitions that the contracts of `transform` cite, and figures of them.
+-- The definitions that the contracts of `transform`, `transform_check` and `transform_angles` cite, and figures of them.
 pub mod Angle
 pub mod Ops
 pub mod Checks

@@ -10,7 +10,6 @@ mod states;
 
 pub use foresight::foresee;
 pub use foresight::unknown;
-use math::Vec3;
 pub use point::plus_zero;
 pub use states::full;
 pub use states::grown;

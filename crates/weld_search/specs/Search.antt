@@ -17,7 +17,7 @@ use Rattle.weld_search.specs.declared.Welded.{Welded}
 abbrev pub withVertex : Mesh → Vec3 → Mesh
 withVertex S p = record { vertices = withPoint (S .vertices) p; triangles = S .triangles }
 
--- b is the bucket of p, or none: as many as the places or more
+-- b is the bucket of p, or stands for none where it is not below the places
 abbrev pub BucketOrNone : ℕ → Vec3 → ℕ → Type 0
 BucketOrNone places p b = b < places → b ≡ bucketOf places p
 

@@ -31,8 +31,8 @@ returns-2 c =
 fold-requires : tie.Need-fold-requires
 fold-requires c κs = search needs
 
-keep-finite-requires : tie.Need-keep-finite-requires
-keep-finite-requires c κs = c .before .before .before .before .before .pre
+tested-stay-finite-requires : tie.Need-tested-stay-finite-requires
+tested-stay-finite-requires c κs = c .before .before .before .before .before .pre
 
 returns-3 : tie.Need-returns-3
 returns-3 c =
@@ -41,7 +41,7 @@ returns-3 c =
     let w = sym (c .before .before .before .before .before .ops-angles-within .ensures) ∙ not-false _ (c .before .before .before .before .if1 .left) in
     let z = ne-eqb (a .op-count) 0 (c .before .before .before .if2 .left) in
     let fold = c .before .before .fold in
-    let keep = c .before .keep-finite in
+    let keep = c .before .tested-stay-finite in
     move-points (a .ops) (a .op-count) (a .degrees) ps w z (fold .result) (keep .result) false (fold .ensures) (keep .ensures) (not-true _ (c .if3 .taken))
 
 returns-4 : tie.Need-returns-4
@@ -51,7 +51,7 @@ returns-4 c =
     let w = sym (c .before .before .before .before .before .ops-angles-within .ensures) ∙ not-false _ (c .before .before .before .before .if1 .left) in
     let z = ne-eqb (a .op-count) 0 (c .before .before .before .if2 .left) in
     let fold = c .before .before .fold in
-    let keep = c .before .keep-finite in
+    let keep = c .before .tested-stay-finite in
     move-points (a .ops) (a .op-count) (a .degrees) ps w z (fold .result) (keep .result) true (fold .ensures) (keep .ensures) (not-false _ (c .if3 .left))
 
 pub move-refusal-spec : {M : Type 1} → statement M
@@ -62,6 +62,6 @@ move-refusal-spec =
     returns
     returns-2
     fold-requires
-    keep-finite-requires
+    tested-stay-finite-requires
     returns-3
     returns-4)

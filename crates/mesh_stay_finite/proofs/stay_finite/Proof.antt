@@ -12,8 +12,8 @@ mul-all-bounded c = search needs
 all-bounded-requires : tie.Need-all-bounded-requires
 all-bounded-requires c κs = search needs
 
-keep-finite-requires : tie.Need-keep-finite-requires
-keep-finite-requires c κs =
+tested-stay-finite-requires : tie.Need-tested-stay-finite-requires
+tested-stay-finite-requires c κs =
     let a = c .before .before .before .args in
     let p = c .before .all-bounded in
     tested-small (now (a .vertices)) (a .n) (p .result) (c .before .before .before .pre) (p .ensures) (c .if1 .taken)
@@ -27,8 +27,8 @@ mul-all-finite c = search needs
 all-finite-requires : tie.Need-all-finite-requires
 all-finite-requires c κs = search needs
 
-keep-finite-requires-2 : tie.Need-keep-finite-requires-2
-keep-finite-requires-2 c κs =
+tested-stay-finite-requires-2 : tie.Need-tested-stay-finite-requires-2
+tested-stay-finite-requires-2 c κs =
     let a = c .before .before .before .before .before .args in
     tested-finite (now (a .vertices)) (a .n)
     (record { within = c .before .before .before .before .before .pre; finite = sym (c .before .all-finite .ensures) ∙ c .if2 .taken })
@@ -48,11 +48,11 @@ stay-finite-spec =
     (tie.spec
     mul-all-bounded
     all-bounded-requires
-    keep-finite-requires
+    tested-stay-finite-requires
     returns
     mul-all-finite
     all-finite-requires
-    keep-finite-requires-2
+    tested-stay-finite-requires-2
     returns-2
     stay-finite-divided-requires
     returns-3)

@@ -14,8 +14,8 @@ returns c =
     let a = d .args in
     isEar-not (now (a .v)) (a .eps) (now (a .idx)) (now (a .kinds)) (a .m) (d .pre .1) (d .pre .2) (a .k) (d .pre .0) (c .if1 .taken)
 
-ear-at-requires : tie.Need-ear-at-requires
-ear-at-requires c κs = search needs
+triangle-at-requires : tie.Need-triangle-at-requires
+triangle-at-requires c κs = search needs
 
 blocked-requires : tie.Need-blocked-requires
 blocked-requires c κs = search needs
@@ -25,9 +25,9 @@ returns-2 c =
     let d = c .before .before .before .before .before in
     let a = d .args in
     isEar-is (now (a .v)) (a .eps) (now (a .idx)) (now (a .kinds)) (a .m) (d .pre .1) (d .pre .2) (a .k) (d .pre .0)
-    (c .before .before .if1 .left) (c .before .ear-at .ensures) (c .blocked .ensures)
+    (c .before .before .if1 .left) (c .before .triangle-at .ensures) (c .blocked .ensures)
 
 pub is-ear-spec : {M : Type 1} → statement M
 is-ear-spec =
     tie.close
-    (tie.spec element-copy-out-if1 returns ear-at-requires blocked-requires returns-2)
+    (tie.spec element-copy-out-if1 returns triangle-at-requires blocked-requires returns-2)

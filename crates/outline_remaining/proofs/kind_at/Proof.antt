@@ -4,8 +4,8 @@ use borrow.Author.Needs.{needs}
 use Rattle.outline_remaining.proofs.kind_at.Statement.{statement}
 use Rattle.outline_remaining.proofs.kind_at.Tie as tie
 
-ear-at-requires : tie.Need-ear-at-requires
-ear-at-requires c κs = search needs
+triangle-at-requires : tie.Need-triangle-at-requires
+triangle-at-requires c κs = search needs
 
 cross-requires : tie.Need-cross-requires
 cross-requires c κs = search needs
@@ -14,7 +14,7 @@ kind-of-requires : tie.Need-kind-of-requires
 kind-of-requires c κs = search needs
 
 returns : tie.Need-returns
-returns c = kind-is _ _ _ _ (c .before .before .ear-at .ensures) (c .before .cross .ensures) (c .kind-of .ensures)
+returns c = kind-is _ _ _ _ (c .before .before .triangle-at .ensures) (c .before .cross .ensures) (c .kind-of .ensures)
 
 pub kind-at-spec : {M : Type 1} → statement M
-kind-at-spec = tie.close (tie.spec ear-at-requires cross-requires kind-of-requires returns)
+kind-at-spec = tie.close (tie.spec triangle-at-requires cross-requires kind-of-requires returns)

@@ -13,8 +13,8 @@ first-ear-requires c κs = search needs
 enum-known-k : tie.Need-enum-known-k
 enum-known-k c = search needs
 
-ear-at-requires : tie.Need-ear-at-requires
-ear-at-requires c κs =
+triangle-at-requires : tie.Need-triangle-at-requires
+triangle-at-requires c κs =
     let d = c .before .before .before .before .before .before in
     let a = d .args in
     (ear-below (now (a .v)) (a .eps) (now (a .idx)) (a .m) (d .pre .1) _ (c .before .before .before .first-ear .ensures) (c .before .k .given .1), d .pre .1)
@@ -56,7 +56,7 @@ returns c =
     let d = s .before .before .before in
     let a = d .args in
     clip-passing (now (a .v)) (a .eps) (now (a .idx)) (a .m) (a .cut) (now (a .out)) (d .pre .0) (d .pre .1) (d .pre .3) (s .first-ear .ensures)
-    _ _ _ (c .before .before .before .before .before .before .k .given .1) (c .before .before .before .before .ear-at .ensures) (p .kept .0) (p .ensures)
+    _ _ _ (c .before .before .before .before .before .before .k .given .1) (c .before .before .before .before .triangle-at .ensures) (p .kept .0) (p .ensures)
 
 returns-2 : tie.Need-returns-2
 returns-2 c =
@@ -85,7 +85,7 @@ pass-spec =
     (tie.spec
     first-ear-requires
     enum-known-k
-    ear-at-requires
+    triangle-at-requires
     put-requires
     add-t19
     add-t20

@@ -1,4 +1,4 @@
--- `mesh_stay_finite::keep_finite` meets its contract: by the bounds, by the loop without a division, or by the one with it. Assumes nothing.
+-- `mesh_stay_finite::tested_stay_finite` meets its contract: by the bounds, by the loop without a division, or by the one with it. Assumes nothing.
 use denote.Ref.{now}
 use mathlib.Core.Path.{sym}
 use Prim.Native.Nat.{_*_}
@@ -6,8 +6,8 @@ use lib.ListN.{take}
 use borrow.Author.Needs.{needs}
 use Rattle.slice_law.specs.Bools.{and-left, and-right}
 use Rattle.mesh_move_affine.proofs.BoundedLaws.{keeps}
-use Rattle.mesh_stay_finite.proofs.keep_finite.Statement.{statement}
-use Rattle.mesh_stay_finite.proofs.keep_finite.Tie as tie
+use Rattle.mesh_stay_finite.proofs.tested_stay_finite.Statement.{statement}
+use Rattle.mesh_stay_finite.proofs.tested_stay_finite.Tie as tie
 
 is-bounded-requires : tie.Need-is-bounded-requires
 is-bounded-requires c κs = tt
@@ -34,8 +34,8 @@ stay-finite-divided-requires c κs = c .before .before .before .before .before .
 returns-3 : tie.Need-returns-3
 returns-3 c = search needs
 
-pub keep-finite-spec : {M : Type 1} → statement M
-keep-finite-spec =
+pub tested-stay-finite-spec : {M : Type 1} → statement M
+tested-stay-finite-spec =
     tie.close
     (tie.spec
     is-bounded-requires

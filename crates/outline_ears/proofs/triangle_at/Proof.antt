@@ -1,9 +1,9 @@
--- `outline_ears::ear_at` meets its contract. Assumes nothing.
+-- `outline_ears::triangle_at` meets its contract. Assumes nothing.
 use denote.Ref.{now}
-use Rattle.outline_ears.proofs.Laws.{ear-is}
+use Rattle.outline_ears.proofs.Laws.{triangle-is}
 use borrow.Author.Needs.{needs}
-use Rattle.outline_ears.proofs.ear_at.Statement.{statement}
-use Rattle.outline_ears.proofs.ear_at.Tie as tie
+use Rattle.outline_ears.proofs.triangle_at.Statement.{statement}
+use Rattle.outline_ears.proofs.triangle_at.Tie as tie
 
 previous-requires : tie.Need-previous-requires
 previous-requires c κs = search needs
@@ -43,11 +43,11 @@ returns c =
     let q = c .before .before .before .before in
     let p = q .before .before .before in
     let d = p .before .before in
-    ear-is (now (d .args .v)) (now (d .args .idx)) (d .args .m) (d .pre .1) (d .args .k) (d .pre .0) (p .previous .ensures .0) (q .next .ensures .0) (c .before .before .point-of .ensures)
+    triangle-is (now (d .args .v)) (now (d .args .idx)) (d .args .m) (d .pre .1) (d .args .k) (d .pre .0) (p .previous .ensures .0) (q .next .ensures .0) (c .before .before .point-of .ensures)
     (c .before .point-of2 .ensures) (c .point-of3 .ensures)
 
-pub ear-at-spec : {M : Type 1} → statement M
-ear-at-spec =
+pub triangle-at-spec : {M : Type 1} → statement M
+triangle-at-spec =
     tie.close
     (tie.spec
     previous-requires
