@@ -8,8 +8,8 @@ use native.Mathlib.Nat.{mul-assoc, lt-of-mul-lt-mul-right}
 use native.Mathlib.Omega.{arith}
 use lib.Dec.{T, leb, leb→le, nleb→lt}
 use lib.Pow.{pow-mono, pow-add, shl-lt}
-use Rattle.root.specs.Sqrt.{nearRoot}
-use Rattle.root.proofs.Roots.{IsRoot, square-le, near-down, near-up}
+use Rattle.root_whole.specs.Whole.{nearRoot}
+use Rattle.root_whole.proofs.Roots.{IsRoot, square-le, near-down, near-up}
 
 square-lt : (a b : ℕ) → a < b → a * a < b * b
 square-lt a b h = let k : (a + 1) * (a + 1) ≤ b * b = square-le (omega arith) in omega arith

@@ -1,17 +1,17 @@
 -- A root that the format holds is exact: where y times y is x, `sqrt` gives y. Assumes nothing.
-use mathlib.Core.Path.{_≡_, sym, ap, _∙_, subst}
+use mathlib.Core.Path.{_≡_, ap}
 use mathlib.Core.Bool.{true, false}
 use Prim.Native.Nat.{ℕ, zero, suc, _+_, _*_, _≤_, _<_}
 use native.Mathlib.Nat.{le-trans, le-antisymm, le-of-suc-le-suc, lt-of-not-le, lt-irrefl, mul-le-mul-left, mul-le-mul-right, mul-pos, zero-lt-suc}
 use native.Mathlib.Omega.{arith}
 use lib.IntN.{ℤ}
 use lib.Dec.{T}
-use lib.Ieee.{Float, nan, inf, fin, Format, binary64, up, down, fits}
+use lib.Ieee.{Float, nan, inf, fin, Format, up, down, fits}
 use lib.Ieee.Fits.{up-pos, down-pos}
 use Rattle.ieee.specs.Unique.{fin-unique}
 use Rattle.root.specs.Sqrt.{sqrt}
-use Rattle.root.specs.Rounded.{sizeOf, Below, notBelowZero, SquareOf, Nearest, CorrectlyRounded, Root}
-use Rattle.root.proofs.Rounded.{sqrt-rounded, nearest-root}
+use Rattle.root.specs.Rounded.{sizeOf, Below, notBelowZero, SquareOf, Nearest}
+use Rattle.root.proofs.Rounded.{nearest-root}
 
 square-le : (m n : ℕ) → m ≤ n → m * m ≤ n * n
 square-le m n h = le-trans (mul-le-mul-right m h) (mul-le-mul-left n h)
@@ -70,11 +70,3 @@ sqrt-exact f (fin true m e) y h p k z q = absurd p
 sqrt-exact f (fin false zero e) y h p k z q = zero-exact f e y h k z q
 sqrt-exact f (fin false (suc m) e) y h p k z q =
     nearest-exact f (fin false (suc m) e) (sqrt f (fin false (suc m) e)) y (nearest-root f (fin false (suc m) e) h tt (mul-pos (zero-lt-suc m) (up-pos e))) k z q
-
--- what the code's answers are
-pub root-is : (x r : Float) → T (fits binary64 x) → r ≡ sqrt binary64 x → Root x r
-root-is x r h e = record {
-  value = e;
-  rounded = subst (CorrectlyRounded binary64 x) (sym e) (sqrt-rounded binary64 x h);
-  exact = λ y p k z q. e ∙ sqrt-exact binary64 x y h p k z q;
-}

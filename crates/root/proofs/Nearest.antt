@@ -12,8 +12,9 @@ use lib.Ieee.{Float, Format, binary32, binary64, prec, emax, low, size, units, f
 use lib.Ieee.Digits.{size-lt, size-reaches, size-le}
 use lib.Ieee.Exact.{HasValue, units-val}
 use lib.Ieee.Fits.{two, two-le-pos, nearest-le}
-use Rattle.root.specs.Sqrt.{isqrt, rootUnits, sqrt, nearRoot}
-use Rattle.root.proofs.Roots.{isqrt-is, root-ge, root-lt, near-is}
+use Rattle.root_whole.specs.Whole.{isqrt, nearRoot}
+use Rattle.root.specs.Sqrt.{rootUnits, sqrt}
+use Rattle.root_whole.proofs.Roots.{isqrt-is, root-ge, root-lt, near-is}
 use Rattle.root.proofs.Scaled.{pow-lt-back, rootUnits-scaled, sqrt-value}
 use Rattle.root.proofs.Best.{Best, best, spaced}
 use Rattle.root.proofs.Units.{same-value, InUnits, in-units, units-fits}

@@ -71,6 +71,17 @@ module _ (f : Format) (x : Float) (h : T (fits f x)) (x-plus : T (notBelowZero x
     than-below = λ y k z. nearer y k z .1;
   }
 
+-- the same of a value above zero that is given as a fraction
+pub nearest-value : (f : Format) (x : Float) (a b : ℕ) → T (fits f x) → HasValue x false a b → 0 < a → Nearest f x (sqrt f x)
+nearest-value f nan a b h v p = absurd v
+nearest-value f (inf s) a b h v p = absurd v
+nearest-value f (fin true m e) a b h v p = absurd (subst T (v .0) tt)
+nearest-value f (fin false zero e) a b h v p = absurd (none (down e) (down-pos e) (v .1))
+  where
+    none : (d : ℕ) → 0 < d → 0 * up e * b ≡ a * d → ⊥
+    none d q i = omega (arith, mul-pos p q)
+nearest-value f (fin false (suc m) e) a b h v p = nearest-root f (fin false (suc m) e) h tt (size-pos m e)
+
 -- The definition gives IEEE 754's root, for every value of the format.
 pub sqrt-rounded : (f : Format) (x : Float) → T (fits f x) → CorrectlyRounded f x (sqrt f x)
 unfolding sqrt lt eq

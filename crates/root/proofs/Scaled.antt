@@ -11,8 +11,9 @@ use lib.Ieee.{Float, nan, inf, fin, Format, prec, low, up, down, size, nearest, 
 use lib.Ieee.Digits.{size-lt, size-le}
 use lib.Ieee.Exact.{HasValue}
 use lib.Ieee.Fits.{two, down-pos}
-use Rattle.root.specs.Sqrt.{isqrt, rootUnits, sqrt, nearRoot}
-use Rattle.root.proofs.Roots.{IsRoot, isqrt-is, root-ge, root-lt, compare-scale, near-is}
+use Rattle.root_whole.specs.Whole.{isqrt, nearRoot}
+use Rattle.root.specs.Sqrt.{rootUnits, sqrt}
+use Rattle.root_whole.proofs.Roots.{IsRoot, isqrt-is, root-ge, root-lt, compare-scale, near-is}
 
 pub pow-lt-back : (i p : ℕ) → 2 ^ i < 2 ^ p → i < p
 pow-lt-back i p h = lt-of-not-le (λ (g : p ≤ i). lt-irrefl (2 ^ i) (lt-of-lt-of-le h (pow-mono g)))
@@ -104,12 +105,3 @@ sqrt-value f (fin false (suc m) e) a v h =
     (ap (λ (x : ℕ). suc m * up e * x) (pow-add 2 (low f) (low f)) ∙ sym (mul-assoc (suc m * up e) (2 ^ low f) (2 ^ low f))
     ∙ ap (λ (x : ℕ). x * 2 ^ low f) (v .1) ∙ mul-right-comm a (down e) (2 ^ low f))
     ∙ mul-div-cancel (a * 2 ^ low f) (down-pos e))
-
--- the root of a value below zero
-pub sqrt-negative : (f : Format) (x : Float) (a c : ℕ) → HasValue x true a c → 0 < a → sqrt f x ≡ nan
-unfolding sqrt
-sqrt-negative f nan a c v h = absurd v
-sqrt-negative f (inf s) a c v h = absurd v
-sqrt-negative f (fin s zero e) a c v h = absurd (no-value a (down e) h (down-pos e) (simp zero-mul at (v .1)))
-sqrt-negative f (fin true (suc m) e) a c v h = refl
-sqrt-negative f (fin false (suc m) e) a c v h = absurd (subst T (sym (v .0)) tt)

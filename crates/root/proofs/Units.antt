@@ -1,15 +1,17 @@
 -- The values that a format holds, in units of the format's smallest. Assumes nothing.
-use mathlib.Core.Path.{_≡_, sym, ap, _∙_}
+use mathlib.Core.Path.{_≡_, sym, ap, _∙_, subst}
 use mathlib.Core.Bool.{Bool, true, false, cond}
 use Prim.Native.Nat.{ℕ, suc, _+_, _*_, _^_, _≤_, _<_}
-use native.Mathlib.Nat.{le-of-eq, lt-of-lt-of-le, lt-of-le-of-lt, mul-lt-mul-of-pos-right, mul-assoc, mul-right-comm, eq-of-mul-eq-mul-right}
+use native.Mathlib.Nat.{le-of-eq, lt-of-lt-of-le, lt-of-le-of-lt, mul-lt-mul-of-pos-right, mul-assoc, mul-right-comm, mul-pos, eq-of-mul-eq-mul-right}
 use native.Mathlib.Nat.{lt-of-mul-lt-mul-right, lt-suc-self}
 use lib.Dec.{T, ltb, lt→ltb}
 use lib.Pow.{pow-pos, pow-lt, pow-add}
 use lib.Ieee.{Float, nan, inf, fin, Format, prec, emax, low, up, down, odd, units, fits}
 use lib.Ieee.Exact.{HasValue}
 use lib.Ieee.Fits.{down-pos, odd-fits}
+use native.Mathlib.Omega.{arith}
 use Rattle.ieee.specs.Scaled.{held, step}
+use Rattle.ieee.specs.Unique.{fin-unique}
 
 -- two fractions of one size
 pub same-value : (x : Float) (s : Bool) (a b c d : ℕ) → HasValue x s a b → HasValue x s c d → a * d ≡ c * b
@@ -51,3 +53,21 @@ units-fits f q k h g = go (ltb (q * 2 ^ k) (2 ^ (low f + suc (emax f)))) (lt→l
     go : (b : Bool) → T b → T (fits f (cond b (odd (suc (prec f)) false q k (low f)) (inf false)))
     go true t = odd-fits f (suc (prec f)) false q k (lt-of-le-of-lt h (pow-lt (lt-suc-self (prec f)))) h g
     go false t = absurd t
+
+-- two values of one size
+pub same-float : (f : Format) (x y : Float) (a b c d : ℕ) → T (fits f x) → T (fits f y) → HasValue x false a b → HasValue y false c d → 0 < b → 0 < d → a * d ≡ c * b
+    → x ≡ y
+same-float f nan y a b c d p q v u B D e = absurd v
+same-float f (inf s) y a b c d p q v u B D e = absurd v
+same-float f (fin s m i) nan a b c d p q v u B D e = absurd u
+same-float f (fin s m i) (inf t) a b c d p q v u B D e = absurd u
+same-float f (fin s m i) (fin t n j) a b c d p q v u B D e =
+    ap (λ (z : Bool). fin z m i) (v .0)
+    ∙ fin-unique f false m i n j (subst (λ (z : Bool). T (fits f (fin z m i))) (v .0) p) (subst (λ (z : Bool). T (fits f (fin z n j))) (u .0) q)
+    (cross (m * up i) (down i) (n * up j) (down j) a b c d B D (v .1) (u .1) e)
+    ∙ ap (λ (z : Bool). fin z n j) (sym (u .0))
+  where
+    cross : (M I N J a b c d : ℕ) → 0 < b → 0 < d → M * b ≡ a * I → N * d ≡ c * J → a * d ≡ c * b → M * J ≡ N * I
+    cross M I N J a b c d B D h k e =
+        eq-of-mul-eq-mul-right (b * d) (mul-pos B D) (M * J) (N * I)
+        (omega (arith, ap (λ (z : ℕ). z * (J * d)) h, ap (λ (z : ℕ). z * (I * b)) k, ap (λ (z : ℕ). z * (I * J)) e))

@@ -6,6 +6,7 @@ use lib.Dec.{T}
 use lib.Ieee.{Float, nan, inf, fin, Format, binary64, up, down, fits, lt, eq}
 use Rattle.ieee.specs.Number.{plusZero}
 use Rattle.root.specs.Sqrt.{sqrt}
+use Rattle.root.specs.ByCase.{ByCase}
 
 -- A number that is not below zero, as num / den.
 pub record Fraction : Type 0 where
@@ -58,9 +59,10 @@ pub record CorrectlyRounded (f : Format) (x r : Float) : Type 0 where
   pub negative : T (lt x plusZero) → r ≡ nan
   pub positive : T (lt plusZero x) → T (lt x (inf false)) → Nearest f x r
 
--- What the function `sqrt` ensures of its result r: the root as Sqrt.antt works it out, which is IEEE 754's; and so where a y of the format that is
--- finite and not below zero is the root of x, r is y.
+-- What the function `sqrt` ensures of its result r: the root as Sqrt.antt works it out, for every case the equation of that case, and that it is IEEE 754's;
+-- and so where a y of the format that is finite and not below zero is the root of x, r is y.
 pub record Root (x r : Float) : Type 0 where
   pub value : r ≡ sqrt binary64 x
+  pub by-case : ByCase x r
   pub rounded : CorrectlyRounded binary64 x r
   pub exact : (y : Float) → T (notBelowZero x) → T (fits binary64 y) → T (notBelowZero y) → SquareOf y x → r ≡ y

@@ -1,0 +1,97 @@
+-- The root by its named cases: each case's equation, and that each is correctly rounded. Assumes nothing.
+use mathlib.Core.Path.{_≡_, sym, ap, _∙_, subst}
+use mathlib.Core.Bool.{false}
+use Prim.Native.Nat.{ℕ, suc, _+_, _-_, _*_, _/_, _%_, _^_, _<_}
+use native.Mathlib.Nat.{mul-pos}
+use native.Mathlib.Omega.{arith}
+use lib.Dec.{T}
+use lib.Pow.{pow-pos}
+use lib.Ieee.{Float, binary64, minus, units, odd, ofBits, toBits, fits, round}
+use lib.Ieee.Bits.{ofBits-toBits}
+use lib.Ieee.Exact.{HasValue, odd-sign, units-val}
+use Rattle.root_case.specs.Case.{exponent, rootCase}
+use Rattle.root_case.specs.declared.RootCase.the-variants.{Subnormal, EvenExponent, OddExponent}
+use Rattle.root_case.proofs.Laws.{zero-is, not-finite-is, negative-is, subnormal-is, even-is, odd-is}
+use Rattle.root.specs.Sqrt.{sqrt}
+use Rattle.root.specs.ByCase.{significand, ofDigits, subnormalRoot, evenRoot, oddRoot, ByCase}
+use Rattle.root.specs.Rounded.{Nearest, CorrectlyRounded, Root}
+use Rattle.root.proofs.Patterns.{read-low, write}
+use Rattle.root.proofs.Digits.{field-is, no-overflow, digits-units}
+use Rattle.root.proofs.Rounded.{nearest-value, sqrt-rounded}
+use Rattle.root.proofs.Exact.{sqrt-exact}
+use Rattle.root.proofs.Cases.{Normal, sqrt-even, sqrt-odd, sqrt-subnormal, sqrt-not-finite}
+
+-- The root of a value of the format, case by case.
+pub sqrt-by-case : (x : Float) → T (fits binary64 x) → ByCase x (sqrt binary64 x)
+sqrt-by-case x h = record {
+  zero = λ e. sqrt-rounded binary64 x h .zero (zero-is x h e);
+  not-finite = λ e. sqrt-not-finite x (not-finite-is x h e);
+  negative = λ e. sqrt-rounded binary64 x h .negative (negative-is x h e);
+  subnormal = λ e. let b = subnormal-is x h e in sqrt-subnormal x h (b .0) (b .1);
+  even-exponent = λ e. sqrt-even x h (even-is x h e);
+  odd-exponent = λ e. sqrt-odd x h (odd-is x h e);
+}
+
+-- ---- the digits and the exponent of a normal number are what they are called
+
+normal-units : (b r : ℕ) → Normal r b → ofBits binary64 b ≡ units binary64 false (2 ^ 52 + b % 2 ^ 52) (b / 2 ^ 52 - 1)
+normal-units b r (l, h, p) =
+    let k : b ≡ (b / 2 ^ 52 - 1) * 2 ^ 52 + (2 ^ 52 + b % 2 ^ 52) = omega arith in
+    ap (ofBits binary64) k ∙ write (2 ^ 52 + b % 2 ^ 52) (b / 2 ^ 52 - 1) (omega arith) (omega arith) (omega arith)
+
+module _ (x : Float) (r : ℕ) (held : T (fits binary64 x)) (n : Normal r (toBits binary64 x)) where
+  in-units : x ≡ units binary64 false (2 ^ 52 + toBits binary64 x % 2 ^ 52) (toBits binary64 x / 2 ^ 52 - 1)
+  in-units = sym (ofBits-toBits binary64 x held) ∙ normal-units (toBits binary64 x) r n
+
+  pub normal-digits : x ≡ ofDigits (significand x) (exponent x)
+  unfolding significand exponent
+  normal-digits =
+      let b = toBits binary64 x in
+      let l = n .0 in
+      let h = n .1 in
+      let k : suc (b / 2 ^ 52 - 1) ≡ b % 2 ^ 63 / 2 ^ 52 = omega arith in
+      in-units
+      ∙ sym (digits-units (2 ^ 52 + b % 2 ^ 52) (b / 2 ^ 52 - 1) (omega arith) (omega arith))
+      ∙ ap (ofDigits (2 ^ 52 + b % 2 ^ 52)) (sym (field-is (b / 2 ^ 52 - 1)) ∙ ap (λ (e : ℕ). minus e 1023) k)
+
+  normal-value : HasValue x false ((2 ^ 52 + toBits binary64 x % 2 ^ 52) * 2 ^ (toBits binary64 x / 2 ^ 52 - 1)) (2 ^ 1074)
+  normal-value =
+      let b = toBits binary64 x in
+      let h = n .1 in
+      let q = 2 ^ 52 + b % 2 ^ 52 in
+      let k = b / 2 ^ 52 - 1 in
+      subst (λ (y : Float). HasValue y false (q * 2 ^ k) (2 ^ 1074)) (sym in-units) (units-val binary64 false q k (no-overflow q k (omega arith) (omega arith)))
+
+  normal-nearest : Nearest binary64 x (sqrt binary64 x)
+  normal-nearest =
+      let b = toBits binary64 x in
+      nearest-value binary64 x ((2 ^ 52 + b % 2 ^ 52) * 2 ^ (b / 2 ^ 52 - 1)) (2 ^ 1074) held normal-value (mul-pos (omega arith) (pow-pos (b / 2 ^ 52 - 1)))
+
+-- ---- correct rounding in each of the three cases of a value above zero
+
+pub even-rounded : (x : Float) → T (fits binary64 x) → rootCase x ≡ EvenExponent → Nearest binary64 x (evenRoot x)
+even-rounded x h e = subst (Nearest binary64 x) (sqrt-by-case x h .even-exponent e) (normal-nearest x 1 h (even-is x h e))
+
+pub odd-rounded : (x : Float) → T (fits binary64 x) → rootCase x ≡ OddExponent → Nearest binary64 x (oddRoot x)
+odd-rounded x h e = subst (Nearest binary64 x) (sqrt-by-case x h .odd-exponent e) (normal-nearest x 0 h (odd-is x h e))
+
+low-value : (b : ℕ) → b < 2 ^ 52 → HasValue (ofBits binary64 b) false (b % 2 ^ 52 * 2 ^ 0) (2 ^ 1074)
+low-value b h = subst (λ (y : Float). HasValue y false (b % 2 ^ 52 * 2 ^ 0) (2 ^ 1074)) (sym (read-low b h)) (odd-sign 53 false (b % 2 ^ 52) 0 1074)
+
+pub subnormal-rounded : (x : Float) → T (fits binary64 x) → rootCase x ≡ Subnormal → Nearest binary64 x (subnormalRoot x)
+subnormal-rounded x h e =
+    let b = toBits binary64 x in
+    let l = subnormal-is x h e in
+    subst (Nearest binary64 x) (sqrt-by-case x h .subnormal e)
+    (nearest-value binary64 x (b % 2 ^ 52 * 2 ^ 0) (2 ^ 1074) h
+    (subst (λ (y : Float). HasValue y false (b % 2 ^ 52 * 2 ^ 0) (2 ^ 1074)) (ofBits-toBits binary64 x h) (low-value b (l .1)))
+    (mul-pos (let p = l .0 in let q = l .1 in omega arith) (pow-pos 0)))
+
+-- what the code's answers are
+pub root-is : (x r : Float) → T (fits binary64 x) → r ≡ sqrt binary64 x → Root x r
+root-is x r h e = record {
+  value = e;
+  by-case = subst (ByCase x) (sym e) (sqrt-by-case x h);
+  rounded = subst (CorrectlyRounded binary64 x) (sym e) (sqrt-rounded binary64 x h);
+  exact = λ y p k z q. e ∙ sqrt-exact binary64 x y h p k z q;
+}

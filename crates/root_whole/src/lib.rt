@@ -1,0 +1,27 @@
+// Square roots of whole numbers, to the nearest whole number: a guess that is tested by its square, and else digit by digit.
+ghost use mathlib.Core.Path.{_≡_};
+ghost use Prim.Native.Nat.{_+_, _*_, _^_, _<_, _≤_};
+ghost use Rattle.root_whole.specs.Whole.{nearRoot};
+use std::num::wrapping_sub_u64;
+
+mod digits;
+mod guess;
+
+// The square root of m × 2 ^ 52, to the nearest whole number. A guess that does not pass its test costs time only.
+// h is the root's 31 leading digits, or up to 8 less: 256 × m is h × h + a. l is the digits that follow: a × 2 ^ 21 is h × l + d.
+// So m × 2 ^ 52 is q × q - l × l + d × 2 ^ 23.
+pub fn near_root(m: u64) -> u64
+    requires { ⌜ (2 ^ 52 ≤ m) × (m + 2 ≤ 2 ^ 54) ⌝ }
+    ensures { λ r. ⌜ (r ≡ nearRoot (m * 2 ^ 52)) × (2 ^ 52 ≤ r) × (r < 2 ^ 53) ⌝ }
+{
+    let h = guess::guess(m);
+    let a = wrapping_sub_u64(m * 256, h * h);
+    if a > 16 * h {
+        return digits::round_root(m);
+    }
+    let n = a * 0x20_0000;
+    let l = n / h;
+    let d = n % h;
+    let q = h * 0x40_0000 + l;
+    if d * 0x80_0000 > l * l + q { q + 1 } else { q }
+}
