@@ -73,15 +73,11 @@ pub record Split (m h a l d : ℕ) : Type 0 where
   pub second : h * l + d ≡ a * 2 ^ 21
   pub rest : d < h
 
--- a difference that is small did not wrap
-unwrapped : (n p r : ℕ) → (r + p) % 2 ^ 64 ≡ n → r < 2 ^ 63 → p < 2 ^ 63 → p + r ≡ n
-unwrapped n p r e s t = omega arith
-
--- the difference that `near_root` takes
-pub exact : (m h a : ℕ) → (a + h * h) % 2 ^ 64 ≡ m * 2 ^ 8 → a ≤ 16 * h → h < 2 ^ 31 → h * h + a ≡ m * 2 ^ 8
+-- the difference that `near_root` takes did not wrap where it is small
+pub exact : (m h a : ℕ) → (a + h * h) % 2 ^ 64 ≡ m * 2 ^ 8 → a ≤ 16 * h → h + 16 < 2 ^ 32 → h * h + a ≡ m * 2 ^ 8
 exact m h a e t b =
-    let k : h ≤ 2 ^ 31 - 1 = omega arith in
-    unwrapped (m * 2 ^ 8) (h * h) a e (omega arith) (omega (arith, mul-le-mul k k))
+    let k : h ≤ 2 ^ 32 - 17 = omega arith in
+    omega (arith, e, mul-le-mul k k)
 
 -- h has at least 30 digits
 pub enough-digits : (m h a : ℕ) → 2 ^ 52 ≤ m → h * h + a ≡ m * 2 ^ 8 → a ≤ 16 * h → 2 ^ 29 ≤ h

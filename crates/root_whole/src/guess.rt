@@ -1,18 +1,18 @@
 // A guess of a square root, by whole numbers.
-ghost use Prim.Native.Nat.{_^_, _<_, _≤_};
+ghost use Prim.Native.Nat.{_+_, _^_, _<_, _≤_};
 
 // About 16 times the square root of m, and no more. Nothing is proved of how near it is: `near_root` tests what it gets.
 // c is 2 ^ 30 times the square root of 1 + t / 2 ^ 31, by a cubic that is within 1 part in 14,000, and s is that times the square root of 2 where
 // m has 54 digits. A step of Heron's, the mean of s and of 256 × m divided by s, squares the error, and is at most 6 too large.
 pub(crate) fn guess(m: u64) -> u64
     requires { ⌜ (2 ^ 52 ≤ m) × (m < 2 ^ 54) ⌝ }
-    ensures { λ r. ⌜ r < 2 ^ 31 ⌝ }
+    ensures { λ r. ⌜ r + 16 < 2 ^ 32 ⌝ }
 {
     let wide = m / 0x20_0000_0000_0000;
     let t = (m >> wide) / 0x20_0000 % 0x8000_0000;
-    let a = 115894705 - t * 26776358 / 0x8000_0000;
-    let b = 533907646 - t * a / 0x8000_0000;
-    let c = 1073816357 + t * b / 0x8000_0000;
+    let u = t * t / 0x8000_0000;
+    let v = 115894705 - t * 26776358 / 0x8000_0000;
+    let c = 1073816357 + t * 533907646 / 0x8000_0000 - u * v / 0x8000_0000;
     let s = c * (0x8000_0000 + wide * 0x3504_f334) / 0x8000_0000;
-    ((s + m * 256 / s) / 2 - 6) % 0x8000_0000
+    (s - 12 + m * 256 / s) / 2
 }

@@ -1,8 +1,11 @@
 -- `root::even_root` meets its contract. Assumes nothing.
-use mathlib.Core.Path.{sym, _∙_, subst}
+use mathlib.Core.Path.{sym, ap, _∙_, subst}
+use mathlib.Core.Bool.{false}
+use Prim.Native.Nat.{ℕ, _+_, _/_, _^_}
 use native.Mathlib.Omega.{arith}
 use borrow.Author.Needs.{needs}
 use lib.Dec.{T}
+use lib.Ieee.{binary64, units}
 use Rattle.root_case.proofs.Laws.{even-is}
 use Rattle.root.proofs.Cases.{Normal, even-units}
 use Rattle.root.proofs.even_root.Statement.{statement}
@@ -20,16 +23,30 @@ bits-of-requires c κs = search needs
 add-significand : tie.Need-add-significand
 add-significand c = omega arith
 
-add-scaled-root : tie.Need-add-scaled-root
-add-scaled-root c = omega arith
+near-root-requires : tie.Need-near-root-requires
+near-root-requires c κs = (omega arith, omega arith)
 
-scaled-root-requires : tie.Need-scaled-root-requires
-scaled-root-requires c κs = (omega arith, omega arith, omega (arith, told c .1))
+add-of-digits : tie.Need-add-of-digits
+add-of-digits c = omega arith
+
+of-digits-requires : tie.Need-of-digits-requires
+of-digits-requires c κs = (c .near-root .ensures .1, c .near-root .ensures .2, omega (arith, told (c .before) .1))
 
 returns : tie.Need-returns
 returns c =
-    let p = c .before in
-    c .scaled-root .ensures ∙ sym (even-units (p .before .args .x) (p .bits-of .result) (p .bits-of .ensures) (told p))
+    let p = c .before .before in
+    let k = (p .bits-of .result / 2 ^ 52 + 1021) / 2 in
+    c .of-digits .ensures
+    ∙ ap (λ (q : ℕ). units binary64 false q k) (c .before .near-root .ensures .0)
+    ∙ sym (even-units (p .before .args .x) (p .bits-of .result) (p .bits-of .ensures) (told p))
 
 pub even-root-spec : {M : Type 1} → statement M
-even-root-spec = tie.close (tie.spec bits-of-requires add-significand add-scaled-root scaled-root-requires returns)
+even-root-spec =
+    tie.close
+    (tie.spec
+    bits-of-requires
+    add-significand
+    near-root-requires
+    add-of-digits
+    of-digits-requires
+    returns)

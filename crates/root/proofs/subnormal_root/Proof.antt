@@ -42,29 +42,33 @@ cast-fours c = omega (arith, counted c .0)
 sub-fours : tie.Need-sub-fours
 sub-fours c = omega (arith, counted c .0, counted c .1)
 
-mul-scaled-root : tie.Need-mul-scaled-root
-mul-scaled-root c = omega (arith, counted c .0)
+mul-near-root : tie.Need-mul-near-root
+mul-near-root c = omega (arith, counted c .0)
 
-shl-scaled-root : tie.Need-shl-scaled-root
-shl-scaled-root c = omega (arith, scaled c .few)
+shl-near-root : tie.Need-shl-near-root
+shl-near-root c = omega (arith, scaled c .few)
 
-sub-scaled-root : tie.Need-sub-scaled-root
-sub-scaled-root c = omega (arith, scaled c .few)
-
-scaled-root-requires : tie.Need-scaled-root-requires
-scaled-root-requires c κs =
+near-root-requires : tie.Need-near-root-requires
+near-root-requires c κs =
     let b = c .bits-of .result in
     let e : b * 2 ^ (2 * foursOf b) % 2 ^ 64 ≡ b * 4 ^ foursOf b = shifted b (foursOf b) (scaled c) in
-    (rw e (scaled c .low), rw e (scaled c .high), omega arith)
+    (rw e (scaled c .low), rw e (scaled c .high))
+
+sub-of-digits : tie.Need-sub-of-digits
+sub-of-digits c = omega (arith, scaled (c .before) .few)
+
+of-digits-requires : tie.Need-of-digits-requires
+of-digits-requires c κs = (c .near-root .ensures .1, c .near-root .ensures .2, omega arith)
 
 returns : tie.Need-returns
 returns c =
-    let p = c .before in
+    let p = c .before .before in
     let b = p .bits-of .result in
     let n = counted p in
     let f = foursOf b in
     let e : f ≡ (54 - size b) / 2 = omega (arith, n .0, n .1) in
-    c .scaled-root .ensures
+    c .of-digits .ensures
+    ∙ ap (λ (q : ℕ). units binary64 false q (511 - f)) (c .before .near-root .ensures .0)
     ∙ ap (λ (m : ℕ). units binary64 false (nearRoot (m * 2 ^ 52)) (511 - f)) (shifted b f (scaled p))
     ∙ sym (subnormal-units (p .before .args .x) b f (p .bits-of .ensures) (told p .0) (told p .1) e)
 
@@ -75,8 +79,9 @@ subnormal-root-spec =
     bits-of-requires
     cast-fours
     sub-fours
-    mul-scaled-root
-    shl-scaled-root
-    sub-scaled-root
-    scaled-root-requires
+    mul-near-root
+    shl-near-root
+    near-root-requires
+    sub-of-digits
+    of-digits-requires
     returns)
