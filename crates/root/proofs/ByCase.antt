@@ -2,14 +2,14 @@
 use mathlib.Core.Path.{_≡_, sym, ap, _∙_, subst}
 use mathlib.Core.Bool.{false}
 use Prim.Native.Nat.{ℕ, suc, _+_, _-_, _*_, _/_, _%_, _^_, _<_}
-use native.Mathlib.Nat.{mul-pos}
+use native.Mathlib.Nat.{mul-pos, mul-one}
 use native.Mathlib.Omega.{arith}
 use lib.Dec.{T}
 use lib.Pow.{pow-pos}
-use lib.Ieee.{Float, binary64, minus, units, odd, ofBits, toBits, fits, round}
+use lib.Ieee.{Float, binary64, minus, odd, units, ofBits, toBits, fits}
 use lib.Ieee.Bits.{ofBits-toBits}
 use lib.Ieee.Exact.{HasValue, odd-sign, units-val}
-use Rattle.root_case.specs.Case.{exponent, rootCase}
+use Rattle.root_case.specs.Case.{trailing, exponent, rootCase}
 use Rattle.root_case.specs.declared.RootCase.the-variants.{Subnormal, EvenExponent, OddExponent}
 use Rattle.root_case.proofs.Laws.{zero-is, not-finite-is, negative-is, subnormal-is, even-is, odd-is}
 use Rattle.root.specs.Sqrt.{sqrt}
@@ -75,17 +75,20 @@ even-rounded x h e = subst (Nearest binary64 x) (sqrt-by-case x h .even-exponent
 pub odd-rounded : (x : Float) → T (fits binary64 x) → rootCase x ≡ OddExponent → Nearest binary64 x (oddRoot x)
 odd-rounded x h e = subst (Nearest binary64 x) (sqrt-by-case x h .odd-exponent e) (normal-nearest x 0 h (odd-is x h e))
 
-low-value : (b : ℕ) → b < 2 ^ 52 → HasValue (ofBits binary64 b) false (b % 2 ^ 52 * 2 ^ 0) (2 ^ 1074)
-low-value b h = subst (λ (y : Float). HasValue y false (b % 2 ^ 52 * 2 ^ 0) (2 ^ 1074)) (sym (read-low b h)) (odd-sign 53 false (b % 2 ^ 52) 0 1074)
+-- a subnormal number is T of the format's smallest values
+pub subnormal-digits : (x : Float) → T (fits binary64 x) → rootCase x ≡ Subnormal → HasValue x false (trailing x) (2 ^ 1074)
+unfolding trailing
+subnormal-digits x h e =
+    let b = toBits binary64 x in
+    subst (λ (y : Float). HasValue y false (b % 2 ^ 52) (2 ^ 1074)) (sym (read-low b (subnormal-is x h e .1)) ∙ ofBits-toBits binary64 x h)
+    (subst (λ (n : ℕ). HasValue (odd 53 false (b % 2 ^ 52) 0 1074) false n (2 ^ 1074)) (mul-one (b % 2 ^ 52)) (odd-sign 53 false (b % 2 ^ 52) 0 1074))
 
 pub subnormal-rounded : (x : Float) → T (fits binary64 x) → rootCase x ≡ Subnormal → Nearest binary64 x (subnormalRoot x)
+unfolding trailing
 subnormal-rounded x h e =
-    let b = toBits binary64 x in
     let l = subnormal-is x h e in
     subst (Nearest binary64 x) (sqrt-by-case x h .subnormal e)
-    (nearest-value binary64 x (b % 2 ^ 52 * 2 ^ 0) (2 ^ 1074) h
-    (subst (λ (y : Float). HasValue y false (b % 2 ^ 52 * 2 ^ 0) (2 ^ 1074)) (ofBits-toBits binary64 x h) (low-value b (l .1)))
-    (mul-pos (let p = l .0 in let q = l .1 in omega arith) (pow-pos 0)))
+    (nearest-value binary64 x (trailing x) (2 ^ 1074) h (subnormal-digits x h e) (let p = l .0 in let q = l .1 in omega arith))
 
 -- what the code's answers are
 pub root-is : (x r : Float) → T (fits binary64 x) → r ≡ sqrt binary64 x → Root x r

@@ -1,27 +1,25 @@
--- What the root is in each of the six cases, and that it is correctly rounded in each. All at binary64. Assumes nothing.
+-- What the root is where x is not finite, subnormal, or normal with an even or an odd exponent. All at binary64. Assumes nothing.
 use mathlib.Core.Path.{_≡_, refl, sym, ap, _∙_, subst}
-use mathlib.Core.Bool.{Bool, true, false, not}
+use mathlib.Core.Bool.{true, false, not}
 use Prim.Native.Nat.{ℕ, zero, suc, _+_, _-_, _*_, _/_, _%_, _^_, _≤_, _<_}
-use native.Mathlib.Nat.{lt-irrefl, lt-of-not-le, le-of-lt, mul-le-mul, mul-pos, mul-assoc, add-comm, mul-le-mul-right, le-trans, le-of-eq, lt-of-le-of-lt, lt-of-lt-of-le, mod-eq-of-lt, pow-succ'}
+use native.Mathlib.Nat.{lt-irrefl, mul-pos, mul-assoc, add-comm, mul-le-mul-right, le-trans, le-of-eq, pow-succ'}
 use native.Mathlib.Omega.{arith}
 use lib.IntN.{ℤ, pos, negℤ}
-use lib.Dec.{T, leb, leb→le, nleb→lt}
-use lib.Pow.{pow-pos, pow-mono, pow-add, shl-lt}
-use lib.Count.{leadingZeros, leading-top}
-use lib.Ieee.{Float, nan, inf, fin, binary64, minus, odd, units, size, ofBits, toBits, fits, eq, lt}
+use lib.Dec.{T}
+use lib.Pow.{pow-pos, pow-mono, pow-add}
+use lib.Ieee.{Float, nan, inf, fin, binary64, minus, odd, units, size, ofBits, toBits, fits}
 use lib.Ieee.Bits.{ofBits-toBits}
 use lib.Ieee.Digits.{size-lt, size-reaches, size-le}
 use lib.Ieee.Exact.{odd-sign}
 use lib.Ieee.Scale.{finite}
-use Rattle.ieee.specs.Number.{plusZero}
 use Rattle.root_whole.specs.Whole.{isqrt, nearRoot}
 use Rattle.root_whole.proofs.Roots.{isqrt-is, root-ge, root-lt, four-pow}
 use Rattle.root_whole.proofs.Neighbours.{near-digits}
-use Rattle.root_case.specs.Case.{biasedExponent, trailing, exponent, rootCase}
+use Rattle.root_case.specs.Case.{trailing}
 use Rattle.root.specs.Sqrt.{rootUnits, sqrt}
-use Rattle.root.specs.ByCase.{significand, ofDigits, half, notFiniteRoot, fours, subnormalRoot, evenRoot, oddRoot, ByCase}
+use Rattle.root.specs.ByCase.{ofDigits, half, notFiniteRoot, fours, subnormalRoot, evenRoot, oddRoot}
 use Rattle.root.proofs.Patterns.{read-low, read-normal}
-use Rattle.root.proofs.Scaled.{pow-lt-back, rootUnits-scaled, sqrt-value}
+use Rattle.root.proofs.Scaled.{rootUnits-scaled, sqrt-value}
 use Rattle.root.proofs.Digits.{half-is, negated, digits-units}
 
 -- ---- the root at a pattern, in units of the format's smallest value
@@ -182,37 +180,3 @@ sqrt-not-finite nan t = refl
 sqrt-not-finite (inf true) t = refl
 sqrt-not-finite (inf false) t = refl
 sqrt-not-finite (fin s m e) t = absurd t
-
--- ---- how the code tells and scales them
-
--- plus infinity is the only one of its pattern
-pub infinite : (x : Float) → T (not (finite x)) → toBits binary64 x ≡ 2047 * 2 ^ 52 → x ≡ notFiniteRoot x
-unfolding toBits notFiniteRoot
-infinite nan t e = absurd (omega (arith, e))
-infinite (inf true) t e = absurd (omega (arith, e))
-infinite (inf false) t e = refl
-infinite (fin s m d) t e = absurd t
-
-pub not-infinite : (x : Float) → T (not (finite x)) → (toBits binary64 x ≡ 2047 * 2 ^ 52 → ⊥) → nan ≡ notFiniteRoot x
-unfolding toBits notFiniteRoot
-not-infinite nan t n = refl
-not-infinite (inf true) t n = refl
-not-infinite (inf false) t n = absurd (n refl)
-not-infinite (fin s m d) t n = absurd t
-
--- the digits of a number, from the zeros before them
-pub zeros : (b : ℕ) → 0 < b → b < 2 ^ 52 → (leadingZeros 64 b + size b ≡ 64) × (size b ≤ 52)
-zeros b p h = go (leading-top 64 b p (omega arith))
-  where
-    go : (j : ℕ) × (leadingZeros 64 b + suc j ≡ 64) × (2 ^ j ≤ b) × (b < 2 ^ suc j) → (leadingZeros 64 b + size b ≡ 64) × (size b ≤ 52)
-    go (j, e, l, u) =
-        let most : size b ≤ suc j = size-le b (suc j) u in
-        let least : j < size b = pow-lt-back j (size b) (lt-of-le-of-lt l (size-lt b)) in
-        (omega arith, size-le b 52 h)
-
--- a shift by 2 * f places
-pub shifted : (b f : ℕ) → Quadrupled b f → b * 2 ^ (2 * f) % 2 ^ 64 ≡ b * 4 ^ f
-shifted b f d =
-    let two : 2 * f ≡ f + f = omega arith in
-    let high : b * 4 ^ f + 2 ≤ 2 ^ 54 = d .high in
-    ap (λ (x : ℕ). b * 2 ^ x % 2 ^ 64) two ∙ ap (λ (x : ℕ). b * x % 2 ^ 64) (sym (four-pow f)) ∙ mod-eq-of-lt (omega arith)

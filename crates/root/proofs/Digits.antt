@@ -1,15 +1,15 @@
 -- The number of given digits and exponent, in units of the format's smallest value. All at binary64. Assumes nothing.
-use mathlib.Core.Path.{_≡_, refl, sym, ap, _∙_}
+use mathlib.Core.Path.{_≡_, sym, ap, _∙_}
 use mathlib.Core.Bool.{Bool, true, false, not, cond}
-use Prim.Native.Nat.{ℕ, zero, suc, _+_, _-_, _*_, _/_, _%_, _^_, _≤_, _<_}
-use native.Mathlib.Nat.{le-of-lt, lt-of-lt-of-le, mul-pos, mul-assoc, mul-comm, mul-left-comm}
+use Prim.Native.Nat.{ℕ, suc, _+_, _-_, _*_, _/_, _^_, _≤_, _<_}
+use native.Mathlib.Nat.{le-of-lt, lt-of-lt-of-le, mul-pos, mul-assoc}
 use native.Mathlib.Omega.{arith}
-use lib.IntN.{ℤ, pos, negsuc, negℤ}
+use lib.IntN.{pos, negsuc, negℤ}
 use lib.Dec.{T, leb, leb→le, nleb→lt}
 use lib.Pow.{pow-pos, pow-mono, pow-add, shl-lt}
-use lib.Ieee.{Float, binary64, up, down, minus, units, round}
+use lib.Ieee.{binary64, up, down, minus, units}
 use lib.Ieee.Digits.{minus-val}
-use lib.Ieee.Exact.{HasValue, units-val, round-exact}
+use lib.Ieee.Exact.{units-val, round-exact}
 use lib.Ieee.Fits.{down-pos, round-fits}
 use borrow.Author.Tests.{le-leb, lt-leb}
 use Rattle.root.specs.ByCase.{ofDigits, half}

@@ -10,3 +10,4 @@ pub mod Exact
 pub mod Digits
 pub mod Cases
 pub mod ByCase
+pub mod Steps

@@ -1,5 +1,6 @@
 -- The root case by case, beside IEEE 754. Definitions only.
--- A normal number above zero is d.dd…d × 2 ^ e with 53 digits, the first of them 1. As a whole number these digits are `significand x`, and e is `exponent x`.
+-- A normal number above zero is d.dd…d × 2 ^ e, with 53 digits of which the first is 1: `ofDigits (significand x) (exponent x)`. A subnormal number above zero
+-- is `trailing x` × 2 ^ -1074. That x is so is proved: `normal-digits` and `subnormal-digits` in proofs/ByCase.antt.
 use Prim.Native.Nat.{ℕ, _+_, _-_, _*_, _/_, _^_}
 use mathlib.Core.Path.{_≡_}
 use mathlib.Core.Bool.{false, cond}
@@ -14,7 +15,7 @@ unfoldable pub significand : Float → ℕ
 unfolding trailing
 significand x = 2 ^ 52 + trailing x
 
--- The number d.dd…d × 2 ^ e whose 53 digits are those of q: q × 2 ^ e / 2 ^ 52.
+-- The number d.dd…d × 2 ^ e whose 53 digits are those of q: q × 2 ^ e / 2 ^ 52, which the format holds, so that `round` changes nothing.
 unfoldable pub ofDigits : ℕ → ℤ → Float
 unfolding round
 ofDigits q e = round binary64 false (q * up e) (2 ^ 52 * down e)

@@ -9,7 +9,8 @@ use lib.Dec.{T}
 use lib.Ieee.{binary64, size, units}
 use Rattle.root_whole.specs.Whole.{nearRoot}
 use Rattle.root_case.proofs.Laws.{subnormal-is}
-use Rattle.root.proofs.Cases.{Quadrupled, quadrupled, zeros, shifted, subnormal-units}
+use Rattle.root.proofs.Cases.{Quadrupled, quadrupled, subnormal-units}
+use Rattle.root.proofs.Steps.{zeros, shifted}
 use Rattle.root.proofs.subnormal_root.Statement.{statement}
 use Rattle.root.proofs.subnormal_root.Tie as tie
 
