@@ -8,25 +8,37 @@ pub const H: f64 = f64::from_bits(0x3FE4_5F30_6DC9_C883);
 pub struct Group {
     pub name: &'static str,
     pub draw: fn(&mut Rng) -> Vec<f64>,
+    /// The first draw has all inputs of the group.
+    pub whole: bool,
 }
 
-pub const ROOT: [Group; 6] = [
-    Group { name: "random bits", draw: random_bits },
-    Group { name: "not negative", draw: |rng| vec![f64::from_bits(rng.bits() >> 1)] },
-    Group { name: "subnormal", draw: subnormal },
-    Group { name: "squares and neighbours", draw: squares },
-    Group { name: "squares of midpoints", draw: midpoints },
-    Group { name: "ends of ranges", draw: ends },
+const fn drawn(name: &'static str, draw: fn(&mut Rng) -> Vec<f64>) -> Group {
+    Group { name, draw, whole: false }
+}
+
+const fn whole(name: &'static str, draw: fn(&mut Rng) -> Vec<f64>) -> Group {
+    Group { name, draw, whole: true }
+}
+
+pub const ROOT: [Group; 8] = [
+    whole("powers of two", powers),
+    whole("ends of ranges", ends),
+    drawn("random bits", random_bits),
+    drawn("not negative", |rng| vec![f64::from_bits(rng.bits() >> 1)]),
+    drawn("subnormal", subnormal),
+    drawn("squares of whole numbers", squares),
+    drawn("squares of floats", float_squares),
+    drawn("squares of midpoints", midpoints),
 ];
 
 pub const SINE: [Group; 7] = [
-    Group { name: "random bits", draw: random_bits },
-    Group { name: "within 1,008", draw: |rng| vec![2016.0 * rng.unit() - 1008.0] },
-    Group { name: "within a turn", draw: |rng| vec![6.4 * (2.0 * rng.unit() - 1.0)] },
-    Group { name: "subnormal and small", draw: small },
-    Group { name: "multiples of PI/2", draw: quarters },
-    Group { name: "ties of q", draw: ties },
-    Group { name: "large", draw: large },
+    drawn("random bits", random_bits),
+    drawn("within 1,008", |rng| vec![2016.0 * rng.unit() - 1008.0]),
+    drawn("within a turn", |rng| vec![6.4 * (2.0 * rng.unit() - 1.0)]),
+    drawn("subnormal and small", small),
+    drawn("multiples of PI/2", quarters),
+    drawn("ties of q", ties),
+    drawn("large", large),
 ];
 
 fn random_bits(rng: &mut Rng) -> Vec<f64> {
@@ -53,10 +65,38 @@ fn scaled(m: f64, e: i32) -> f64 {
     m * 2f64.powi(half) * 2f64.powi(e - half)
 }
 
+/// A float with plus sign whose exponent's field is from a to b: 0 for subnormals, 1 to 2046 for normal numbers.
+pub fn with_field(rng: &mut Rng, a: usize, b: usize) -> f64 {
+    f64::from_bits((rng.between(a, b) as u64) << 52 | rng.bits() >> 12)
+}
+
+/// All powers of two that are floats and their neighbours, of both signs.
+fn powers(_: &mut Rng) -> Vec<f64> {
+    (-1074..=1023).flat_map(|e| around(scaled(1.0, e), 1)).flat_map(|x| [x, -x]).collect()
+}
+
+/// Zeros, infinities, NaNs quiet and signalling, the ends of the subnormal and of the normal range, of both signs.
+fn ends(_: &mut Rng) -> Vec<f64> {
+    let mut out = vec![f64::INFINITY, f64::NAN];
+    for nan in [0x7FF0_0000_0000_0001, 0x7FF4_0000_0000_0000, 0x7FF7_FFFF_FFFF_FFFF, 0x7FF8_0000_0000_0001, !0 >> 1] {
+        out.push(f64::from_bits(nan));
+    }
+    for end in [0.0, f64::MIN_POSITIVE, f64::MAX] {
+        out.extend(around(end, 3));
+    }
+    out.into_iter().flat_map(|x| [x, -x]).collect()
+}
+
 /// Squares of whole numbers below 2^26, by an even power of two, and their neighbours.
 fn squares(rng: &mut Rng) -> Vec<f64> {
     let k = (rng.bits() >> rng.between(38, 63)) as f64;
     around(scaled(k * k, 2 * (rng.between(0, 1000) as i32 - 530)), 1)
+}
+
+/// Rounded squares of floats from 2^-538 up to 2^512, beyond which none is finite and above zero, and their neighbours.
+fn float_squares(rng: &mut Rng) -> Vec<f64> {
+    let y = with_field(rng, 485, 1534);
+    around(y * y, 1)
 }
 
 /// The floats nearest to the square of a midpoint of two neighbouring roots: where rounding is hardest to decide.
@@ -66,16 +106,6 @@ fn midpoints(rng: &mut Rng) -> Vec<f64> {
     // The square of the midpoint × 4; to 53 digits by the conversion.
     let square = (twice * twice) as f64;
     around(scaled(square, 2 * (rng.between(0, 900) as i32 - 540)), 1)
-}
-
-/// Zeros, infinities, NaN, powers of two, the ends of the subnormal and of the normal range.
-fn ends(rng: &mut Rng) -> Vec<f64> {
-    let power = f64::from_bits((rng.between(0, 2047) as u64) << 52);
-    let sign = if rng.one_in(4) { -1.0 } else { 1.0 };
-    let mut out = around(sign * power, 2);
-    out.extend([0.0, -0.0, f64::INFINITY, f64::NEG_INFINITY, f64::NAN, f64::MAX, f64::MIN, f64::MIN_POSITIVE]);
-    out.extend(around(f64::MIN_POSITIVE, 3));
-    out
 }
 
 fn small(rng: &mut Rng) -> Vec<f64> {
