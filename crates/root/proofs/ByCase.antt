@@ -1,22 +1,23 @@
 -- The root by its named cases: each case's equation, and that each is correctly rounded. Assumes nothing.
 use mathlib.Core.Path.{_≡_, sym, ap, _∙_, subst}
 use mathlib.Core.Bool.{false}
-use Prim.Native.Nat.{ℕ, suc, _+_, _-_, _*_, _/_, _%_, _^_, _<_}
+use Prim.Native.Nat.{ℕ, suc, _+_, _-_, _*_, _/_, _%_, _^_}
 use native.Mathlib.Nat.{mul-pos, mul-one}
 use native.Mathlib.Omega.{arith}
 use lib.Dec.{T}
 use lib.Pow.{pow-pos}
-use lib.Ieee.{Float, binary64, minus, odd, units, ofBits, toBits, fits}
+use lib.IntN.{ℤ}
+use lib.Ieee.{Float, binary64, minus, up, down, odd, units, ofBits, toBits, fits}
 use lib.Ieee.Bits.{ofBits-toBits}
 use lib.Ieee.Exact.{HasValue, odd-sign, units-val}
 use Rattle.root_case.specs.Case.{trailing, exponent, rootCase}
 use Rattle.root_case.specs.declared.RootCase.the-variants.{Subnormal, EvenExponent, OddExponent}
 use Rattle.root_case.proofs.Laws.{zero-is, not-finite-is, negative-is, subnormal-is, even-is, odd-is}
 use Rattle.root.specs.Sqrt.{sqrt}
-use Rattle.root.specs.ByCase.{significand, ofDigits, subnormalRoot, evenRoot, oddRoot, ByCase}
+use Rattle.root.specs.ByCase.{significand, subnormalRoot, evenRoot, oddRoot, ByCase}
 use Rattle.root.specs.Rounded.{Nearest, CorrectlyRounded, Root}
 use Rattle.root.proofs.Patterns.{read-low, write}
-use Rattle.root.proofs.Digits.{field-is, no-overflow, digits-units}
+use Rattle.root.proofs.Digits.{field-is, no-overflow, digits-exact, digits-units}
 use Rattle.root.proofs.Rounded.{nearest-value, sqrt-rounded}
 use Rattle.root.proofs.Exact.{sqrt-exact}
 use Rattle.root.proofs.Cases.{Normal, sqrt-even, sqrt-odd, sqrt-subnormal, sqrt-not-finite}
@@ -32,7 +33,7 @@ sqrt-by-case x h = record {
   odd-exponent = λ e. sqrt-odd x h (odd-is x h e);
 }
 
--- ---- the digits and the exponent of a normal number are what they are called
+-- ---- a normal number above zero is its digits times the power of its exponent, less 52
 
 normal-units : (b r : ℕ) → Normal r b → ofBits binary64 b ≡ units binary64 false (2 ^ 52 + b % 2 ^ 52) (b / 2 ^ 52 - 1)
 normal-units b r (l, h, p) =
@@ -43,16 +44,20 @@ module _ (x : Float) (r : ℕ) (held : T (fits binary64 x)) (n : Normal r (toBit
   in-units : x ≡ units binary64 false (2 ^ 52 + toBits binary64 x % 2 ^ 52) (toBits binary64 x / 2 ^ 52 - 1)
   in-units = sym (ofBits-toBits binary64 x held) ∙ normal-units (toBits binary64 x) r n
 
-  pub normal-digits : x ≡ ofDigits (significand x) (exponent x)
+  is-digits : HasValue x false (significand x * up (exponent x)) (2 ^ 52 * down (exponent x))
   unfolding significand exponent
-  normal-digits =
+  is-digits =
       let b = toBits binary64 x in
       let l = n .0 in
       let h = n .1 in
-      let k : suc (b / 2 ^ 52 - 1) ≡ b % 2 ^ 63 / 2 ^ 52 = omega arith in
-      in-units
-      ∙ sym (digits-units (2 ^ 52 + b % 2 ^ 52) (b / 2 ^ 52 - 1) (omega arith) (omega arith))
-      ∙ ap (ofDigits (2 ^ 52 + b % 2 ^ 52)) (sym (field-is (b / 2 ^ 52 - 1)) ∙ ap (λ (e : ℕ). minus e 1023) k)
+      let q = 2 ^ 52 + b % 2 ^ 52 in
+      let k = b / 2 ^ 52 - 1 in
+      let field : suc k ≡ b % 2 ^ 63 / 2 ^ 52 = omega arith in
+      let e : minus k 1022 ≡ exponent x = sym (field-is k) ∙ ap (λ (y : ℕ). minus y 1023) field in
+      subst (λ (y : ℤ). HasValue x false (q * up y) (2 ^ 52 * down y)) e
+      (subst (λ (y : Float). HasValue y false (q * up (minus k 1022)) (2 ^ 52 * down (minus k 1022)))
+      (digits-units q k (omega arith) (omega arith) ∙ sym in-units)
+      (digits-exact q k (omega arith) (omega arith)))
 
   normal-value : HasValue x false ((2 ^ 52 + toBits binary64 x % 2 ^ 52) * 2 ^ (toBits binary64 x / 2 ^ 52 - 1)) (2 ^ 1074)
   normal-value =
@@ -66,6 +71,12 @@ module _ (x : Float) (r : ℕ) (held : T (fits binary64 x)) (n : Normal r (toBit
   normal-nearest =
       let b = toBits binary64 x in
       nearest-value binary64 x ((2 ^ 52 + b % 2 ^ 52) * 2 ^ (b / 2 ^ 52 - 1)) (2 ^ 1074) held normal-value (mul-pos (omega arith) (pow-pos (b / 2 ^ 52 - 1)))
+
+pub even-digits : (x : Float) → T (fits binary64 x) → rootCase x ≡ EvenExponent → HasValue x false (significand x * up (exponent x)) (2 ^ 52 * down (exponent x))
+even-digits x h e = is-digits x 1 h (even-is x h e)
+
+pub odd-digits : (x : Float) → T (fits binary64 x) → rootCase x ≡ OddExponent → HasValue x false (significand x * up (exponent x)) (2 ^ 52 * down (exponent x))
+odd-digits x h e = is-digits x 0 h (odd-is x h e)
 
 -- ---- correct rounding in each of the three cases of a value above zero
 

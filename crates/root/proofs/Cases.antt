@@ -72,11 +72,11 @@ at-even b (l, h, p) =
     start-normal b (b / 2 ^ 52) refl (omega arith) (omega arith)
     ∙ scaled-root (b % 2 ^ 52 + 2 ^ 52) (1073 + b / 2 ^ 52) ((b / 2 ^ 52 + 1021) / 2) (omega arith) (omega arith) (omega arith)
 
-at-odd : (b : ℕ) → Normal 0 b → sqrt binary64 (ofBits binary64 b) ≡ units binary64 false (nearRoot (2 * (b % 2 ^ 52 + 2 ^ 52) * 2 ^ 52)) ((b / 2 ^ 52 + 1021) / 2)
+at-odd : (b : ℕ) → Normal 0 b → sqrt binary64 (ofBits binary64 b) ≡ units binary64 false (nearRoot (2 * (b % 2 ^ 52 + 2 ^ 52) * 2 ^ 52)) ((b / 2 ^ 52 + 1020) / 2)
 at-odd b (l, h, p) =
     start-normal b (b / 2 ^ 52) refl (omega arith) (omega arith)
     ∙ ap (rootUnits binary64) (doubled (b % 2 ^ 52 + 2 ^ 52) (1073 + b / 2 ^ 52) (omega arith))
-    ∙ scaled-root (2 * (b % 2 ^ 52 + 2 ^ 52)) (1073 + b / 2 ^ 52 - 1) ((b / 2 ^ 52 + 1021) / 2) (omega arith) (omega arith) (omega arith)
+    ∙ scaled-root (2 * (b % 2 ^ 52 + 2 ^ 52)) (1073 + b / 2 ^ 52 - 1) ((b / 2 ^ 52 + 1020) / 2) (omega arith) (omega arith) (omega arith)
 
 -- f factors of 4 give 53 or 54 digits, of which the last two are 0
 pub record Quadrupled (b f : ℕ) : Type 0 where
@@ -135,14 +135,15 @@ even-units x b is (l, h, p) =
     (ap (λ (e : ℕ). half (minus e 1023)) E ∙ half-is (b / 2 ^ 52))
 
 pub odd-units : (x : Float) (b : ℕ) → b ≡ toBits binary64 x → Normal 0 b
-    → oddRoot x ≡ units binary64 false (nearRoot (2 * (b % 2 ^ 52 + 2 ^ 52) * 2 ^ 52)) ((b / 2 ^ 52 + 1021) / 2)
+    → oddRoot x ≡ units binary64 false (nearRoot (2 * (b % 2 ^ 52 + 2 ^ 52) * 2 ^ 52)) ((b / 2 ^ 52 + 1020) / 2)
 unfolding oddRoot
 odd-units x b is (l, h, p) =
     let E : b % 2 ^ 63 / 2 ^ 52 ≡ b / 2 ^ 52 = omega arith in
+    let k : (b / 2 ^ 52 + 1021) / 2 ≡ (b / 2 ^ 52 + 1020) / 2 = omega arith in
     ap (λ (y : ℕ). ofDigits (nearRoot (2 * (2 ^ 52 + y % 2 ^ 52) * 2 ^ 52)) (half (minus (y % 2 ^ 63 / 2 ^ 52) 1023))) (sym is)
     ∙ ap (λ (m : ℕ). ofDigits (nearRoot (2 * m * 2 ^ 52)) (half (minus (b % 2 ^ 63 / 2 ^ 52) 1023))) (add-comm (2 ^ 52) (b % 2 ^ 52))
-    ∙ digits-at (2 * (b % 2 ^ 52 + 2 ^ 52)) ((b / 2 ^ 52 + 1021) / 2) (half (minus (b % 2 ^ 63 / 2 ^ 52) 1023)) (omega arith) (omega arith) (omega arith)
-    (ap (λ (e : ℕ). half (minus e 1023)) E ∙ half-is (b / 2 ^ 52))
+    ∙ digits-at (2 * (b % 2 ^ 52 + 2 ^ 52)) ((b / 2 ^ 52 + 1020) / 2) (half (minus (b % 2 ^ 63 / 2 ^ 52) 1023)) (omega arith) (omega arith) (omega arith)
+    (ap (λ (e : ℕ). half (minus e 1023)) E ∙ half-is (b / 2 ^ 52) ∙ ap (λ (e : ℕ). minus e 1022) k)
 
 pub subnormal-units : (x : Float) (b f : ℕ) → b ≡ toBits binary64 x → 0 < b → b < 2 ^ 52 → f ≡ (54 - size b) / 2
     → subnormalRoot x ≡ units binary64 false (nearRoot (b * 4 ^ f * 2 ^ 52)) (511 - f)

@@ -9,7 +9,7 @@ use lib.Dec.{T, leb, leb→le, nleb→lt}
 use lib.Pow.{pow-pos, pow-mono, pow-add, shl-lt}
 use lib.Ieee.{binary64, up, down, minus, units}
 use lib.Ieee.Digits.{minus-val}
-use lib.Ieee.Exact.{units-val, round-exact}
+use lib.Ieee.Exact.{HasValue, units-val, round-exact}
 use lib.Ieee.Fits.{down-pos, round-fits}
 use borrow.Author.Tests.{le-leb, lt-leb}
 use Rattle.root.specs.ByCase.{ofDigits, half}
@@ -72,10 +72,15 @@ module _ (q k : ℕ) (small : q < 2 ^ 53) (room : k < 2046) where
       scale : (u L v d P W : ℕ) → W ≡ L * P → u * L ≡ v * d → u * W ≡ v * (P * d)
       scale u L v d P W w e = ap (λ (x : ℕ). u * x) w ∙ sym (mul-assoc u L P) ∙ ap (λ (x : ℕ). x * P) e ∙ omega arith
 
+  -- the number of these digits and this exponent is held, so it is exact
+  pub digits-exact : HasValue (ofDigits q (minus k 1022)) false (q * up (minus k 1022)) (2 ^ 52 * down (minus k 1022))
+  unfolding ofDigits
+  digits-exact = round-exact binary64 false (q * up (minus k 1022)) den q k den-pos small (no-overflow q k small room) same-size
+
   pub digits-units : ofDigits q (minus k 1022) ≡ units binary64 false q k
   unfolding ofDigits
   digits-units =
       same-float binary64 (ofDigits q (minus k 1022)) (units binary64 false q k) (q * up (minus k 1022)) den (q * 2 ^ k) (2 ^ 1074)
       (round-fits binary64 false (q * up (minus k 1022)) den) (units-fits binary64 q k (le-of-lt small) (no-overflow q k small room))
-      (round-exact binary64 false (q * up (minus k 1022)) den q k den-pos small (no-overflow q k small room) same-size)
+      digits-exact
       (units-val binary64 false q k (no-overflow q k small room)) den-pos (pow-pos 1074) same-size

@@ -59,8 +59,8 @@ pub record CorrectlyRounded (f : Format) (x r : Float) : Type 0 where
   pub negative : T (lt x plusZero) → r ≡ nan
   pub positive : T (lt plusZero x) → T (lt x (inf false)) → Nearest f x r
 
--- What the function `sqrt` ensures of its result r: the root as Sqrt.antt works it out, for every case the equation of that case, and that it is IEEE 754's;
--- and so where a y of the format that is finite and not below zero is the root of x, r is y.
+-- What the function `sqrt` ensures of its result r: the root as Sqrt.antt works it out, for every case the equation of that case, and that it is IEEE 754's.
+-- So where x is finite with a plus sign, and y times y is x exactly for such a y of the format, r is y.
 pub record Root (x r : Float) : Type 0 where
   pub value : r ≡ sqrt binary64 x
   pub by-case : ByCase x r

@@ -79,6 +79,11 @@ not-a-number : caseOf 0x7FF8000000000000 ≡ NotFinite
 unfolding rootCase ofBits toBits eq lt
 not-a-number = refl
 
+-- -2^-1074, which is negative before it is subnormal
+minus-least : caseOf 0x8000000000000001 ≡ Negative
+unfolding rootCase ofBits toBits eq lt
+minus-least = refl
+
 -- -1, whose exponent 0 is not asked for
 minus-one : caseOf 0xBFF0000000000000 ≡ Negative
 unfolding rootCase ofBits toBits eq lt

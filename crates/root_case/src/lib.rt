@@ -1,8 +1,8 @@
-// The six cases of IEEE 754's squareRoot, told by the fields of a float's pattern.
+// The six cases of the square root, told by the fields of a float's pattern.
 ghost use mathlib.Core.Path.{_≡_};
 ghost use Rattle.root_case.specs.Case.{rootCase};
 
-// What a float is to the root. The exponent is meant without its bias.
+// The cases. The exponent is meant without its bias.
 pub enum RootCase {
     Zero,
     NotFinite,

@@ -4,7 +4,7 @@ use mathlib.Core.Bool.{cond}
 use lib.Dec.{leb}
 use lib.Ieee.{size, nearest}
 
--- One more binary digit of a root: 2 * r, or one more where the square of that is still at most n.
+-- The next binary digit of a root: 2 * r + 1 where the square of that is at most n, and else 2 * r.
 abbrev pub finer : ℕ → ℕ → ℕ
 finer r n = cond (leb ((r * 2 + 1) * (r * 2 + 1)) n) (r * 2 + 1) (r * 2)
 
@@ -13,7 +13,7 @@ unfoldable pub root : ℕ → ℕ → ℕ
 root zero n = 0
 root (suc k) n = finer (root k (n / 4)) n
 
--- The whole part of the square root of n, which is below 2 ^ size n.
+-- The whole part of the square root of n: n is below 2 ^ size n.
 unfoldable pub isqrt : ℕ → ℕ
 unfolding root size
 isqrt n = root (suc (size n) / 2) n

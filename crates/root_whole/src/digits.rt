@@ -4,8 +4,8 @@ ghost use Prim.Native.Nat.{_+_, _*_, _^_, _<_, _≤_};
 ghost use Rattle.root_whole.specs.Whole.{nearRoot};
 
 // The square root of m × 2 ^ 52, to the nearest whole number.
-// b is the weight of the next digit, and rest is (m × 2 ^ 52 - q × q) / b.
-pub(crate) fn round_root(m: u64) -> u64
+// b is the weight of the next digit, and rest is (m × 2 ^ 52 - q × q) / b. After the last digit it is twice m × 2 ^ 52 - q × q.
+pub(crate) fn root_by_digits(m: u64) -> u64
     requires { ⌜ (2 ^ 52 ≤ m) × (m + 2 ≤ 2 ^ 54) ⌝ }
     ensures { λ r. ⌜ (r ≡ nearRoot (m * 2 ^ 52)) × (2 ^ 52 ≤ r) × (r < 2 ^ 53) ⌝ }
 {

@@ -38,7 +38,7 @@ of-digits-requires c κs = (c .near-root .ensures .1, c .near-root .ensures .2, 
 returns : tie.Need-returns
 returns c =
     let p = c .before .before in
-    let k = (p .bits-of .result / 2 ^ 52 + 1021) / 2 in
+    let k = (p .bits-of .result / 2 ^ 52 + 1020) / 2 in
     c .of-digits .ensures
     ∙ ap (λ (q : ℕ). units binary64 false q k) (c .before .near-root .ensures .0)
     ∙ sym (odd-units (p .before .args .x) (p .bits-of .result) (p .bits-of .ensures) (told p))

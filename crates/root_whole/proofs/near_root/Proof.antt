@@ -23,11 +23,11 @@ wrapping-sub-u64-requires c κs = search needs
 mul-if1 : tie.Need-mul-if1
 mul-if1 c = omega arith
 
-round-root-requires : tie.Need-round-root-requires
-round-root-requires c κs = (omega arith, omega arith)
+root-by-digits-requires : tie.Need-root-by-digits-requires
+root-by-digits-requires c κs = (omega arith, omega arith)
 
 returns : tie.Need-returns
-returns c = c .round-root .ensures
+returns c = c .root-by-digits .ensures
 
 mul-n : tie.Need-mul-n
 mul-n c = omega arith
@@ -75,12 +75,12 @@ add-result c = omega (arith, small (passed (c .before)))
 returns-2 : tie.Need-returns-2
 returns-2 c =
     let e = c .before in
-    rounded (e .before .before .before .args .m) _ (omega arith) (omega arith) (raised (passed e) (c .if2 .taken))
+    rounded (e .before .before .before .args .m) _ (omega arith) (omega arith) (raised (passed e) (omega arith))
 
 returns-3 : tie.Need-returns-3
 returns-3 c =
     let e = c .before in
-    rounded (e .before .before .before .args .m) _ (omega arith) (omega arith) (kept (passed e) (c .if2 .left))
+    rounded (e .before .before .before .args .m) _ (omega arith) (omega arith) (kept (passed e) (omega arith))
 
 pub near-root-spec : {M : Type 1} → statement M
 near-root-spec =
@@ -91,7 +91,7 @@ near-root-spec =
     mul-wrapping-sub-u64-2
     wrapping-sub-u64-requires
     mul-if1
-    round-root-requires
+    root-by-digits-requires
     returns
     mul-n
     div-l

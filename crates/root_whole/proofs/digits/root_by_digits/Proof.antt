@@ -1,4 +1,4 @@
--- `root_whole::digits::round_root` meets its contract. Assumes nothing.
+-- `root_whole::digits::root_by_digits` meets its contract. Assumes nothing.
 use mathlib.Core.Path.{_≡_, refl, sym, ap, _∙_}
 use mathlib.Core.Logic.{⊎-elim}
 use Prim.Native.Nat.{ℕ, zero, suc, _+_, _-_, _*_, _/_, _^_, _≤_, _<_}
@@ -6,8 +6,8 @@ use native.Mathlib.Nat.{pow-succ', lt-of-not-le}
 use native.Mathlib.Numerals.{add-one}
 use native.Mathlib.Omega.{arith}
 use Rattle.root_whole.proofs.Roots.{IsRoot, near-up, near-down, root-ge}
-use Rattle.root_whole.proofs.digits.round_root.Statement.{statement}
-use Rattle.root_whole.proofs.digits.round_root.Tie as tie
+use Rattle.root_whole.proofs.digits.root_by_digits.Statement.{statement}
+use Rattle.root_whole.proofs.digits.root_by_digits.Tie as tie
 
 -- with n bits to come: p is 2 ^ n, and the root is from q up to q + p
 record Inv (m n b q rest : ℕ) : Type 0 where
@@ -146,8 +146,8 @@ returns-2 c =
     let z = at-end m (l .loop .n) (l .loop .b) q (l .loop .rest) (l .loop .inv) (omega arith) (omega arith) in
     (sym (near-down (m * 2 ^ 52) q (z .is) (omega (arith, z .whole))), z .lower, z .upper)
 
-pub round-root-spec : {M : Type 1} → statement M
-round-root-spec =
+pub root-by-digits-spec : {M : Type 1} → statement M
+root-by-digits-spec =
     tie.close
     (tie.spec
     Inv-loop
