@@ -3,6 +3,8 @@ use mathlib.Core.Bool.{Bool, cond}
 use mathlib.Core.List.{List, _++_}
 use Prim.Native.Nat.{ℕ}
 use lib.Ieee.{Float, binary64, toBits}
+use Rattle.root_case.specs.declared.RootCase.{RootCase}
+use Rattle.root_case.specs.declared.RootCase.the-variants.{Zero, NotFinite, Negative, Subnormal, EvenExponent, OddExponent}
 use Rattle.mesh_measures.specs.declared.Measured.{Measured}
 use Rattle.slice_text.specs.Ascii.{ascii}
 use Rattle.slice_text.specs.Numbers.{decimalOf}
@@ -14,9 +16,19 @@ use Rattle.figures_points.specs.Lists.{upTo, pointAt, triangleAt}
 abbrev pub arcOf : List ℕ → ℕ → List ℕ
 arcOf name n = ascii "32 segments, span " ++ (name ++ (ascii ": " ++ (decimalOf n ++ ascii "\n")))
 
--- a root, with its number by name
-abbrev pub rootOf : List ℕ → Float → List ℕ
-rootOf name x = ascii "root of " ++ (name ++ (ascii ": " ++ (floatBitsOf (toBits binary64 x) ++ ascii "\n")))
+-- what a number is to the root, in words
+abbrev pub caseOf : RootCase → List ℕ
+caseOf Zero = ascii "zero"
+caseOf NotFinite = ascii "not finite"
+caseOf Negative = ascii "negative"
+caseOf Subnormal = ascii "subnormal"
+caseOf EvenExponent = ascii "even exponent"
+caseOf OddExponent = ascii "odd exponent"
+
+-- a root, with its number by name and that number's case
+abbrev pub rootOf : List ℕ → RootCase → Float → List ℕ
+rootOf name k x =
+    ascii "root of " ++ (name ++ (ascii ", " ++ (caseOf k ++ (ascii ": " ++ (floatBitsOf (toBits binary64 x) ++ ascii "\n")))))
 
 -- whether a mesh is closed
 unfoldable pub borderOf : Bool → List ℕ

@@ -19,14 +19,23 @@ slice-aggregate-put-2 c = search needs
 put-requires-3 : tie.Need-put-requires-3
 put-requires-3 c κs = search needs
 
-put-float-requires : tie.Need-put-float-requires
-put-float-requires c κs = search needs
+put-case-requires : tie.Need-put-case-requires
+put-case-requires c κs = search needs
 
 slice-aggregate-put-3 : tie.Need-slice-aggregate-put-3
 slice-aggregate-put-3 c = search needs
 
 put-requires-4 : tie.Need-put-requires-4
 put-requires-4 c κs = search needs
+
+put-float-requires : tie.Need-put-float-requires
+put-float-requires c κs = search needs
+
+slice-aggregate-put-4 : tie.Need-slice-aggregate-put-4
+slice-aggregate-put-4 c = search needs
+
+put-requires-5 : tie.Need-put-requires-5
+put-requires-5 c κs = search needs
 
 same-length : tie.Need-same-length
 same-length c = search needs
@@ -38,7 +47,10 @@ returns c =
     let p3 = p2 .before .before .before .before in
     let p4 = p3 .before .before .before .before .before in
     let p5 = p4 .before .before .before .before in
-    then (p5 .put .ensures) (then (p4 .put2 .ensures) (then (p3 .put3 .ensures) (then (p2 .put-float .ensures) (p1 .put4 .ensures))))
+    let p6 = p5 .before .before .before .before .before in
+    let p7 = p6 .before .before .before .before in
+    let rest = then (p3 .put4 .ensures) (then (p2 .put-float .ensures) (p1 .put5 .ensures)) in
+    then (p7 .put .ensures) (then (p6 .put2 .ensures) (then (p5 .put3 .ensures) (then (p4 .put-case .ensures) rest)))
 
 pub put-root-spec : {M : Type 1} → statement M
 put-root-spec =
@@ -49,8 +61,11 @@ put-root-spec =
     put-requires-2
     slice-aggregate-put-2
     put-requires-3
-    put-float-requires
+    put-case-requires
     slice-aggregate-put-3
     put-requires-4
+    put-float-requires
+    slice-aggregate-put-4
+    put-requires-5
     same-length
     returns)
