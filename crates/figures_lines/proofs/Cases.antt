@@ -4,11 +4,11 @@ use mathlib.Core.Bool.{Bool, true, false}
 use Rattle.root_case.specs.declared.RootCase.{RootCase}
 use Rattle.slice_text.specs.Ascii.{ascii}
 use Rattle.slice_text.specs.Line.{Line, Puts}
-use Rattle.figures_lines.specs.Figures.{caseOf, borderOf}
+use Rattle.figures_lines.specs.Figures.{caseName, borderOf}
 
--- the words of a case k that is known to be j
-pub case-text : {k j : RootCase} {l m : Line} → k ≡ j → Puts (caseOf j) l m → Puts (caseOf k) l m
-case-text {l = l} {m = m} e p = subst (λ (i : RootCase). Puts (caseOf i) l m) (sym e) p
+-- the name of a case k that is known to be j
+pub case-text : {k j : RootCase} {l m : Line} → k ≡ j → Puts (caseName j) l m → Puts (caseName k) l m
+case-text {l = l} {m = m} e p = subst (λ (i : RootCase). Puts (caseName i) l m) (sym e) p
 
 pub closed-text : (b : Bool) {l m : Line} → b ≡ true → Puts (ascii ", closed\n") l m → Puts (borderOf b) l m
 unfolding borderOf

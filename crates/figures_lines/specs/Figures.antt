@@ -16,19 +16,19 @@ use Rattle.figures_points.specs.Lists.{upTo, pointAt, triangleAt}
 abbrev pub arcOf : List ℕ → ℕ → List ℕ
 arcOf name n = ascii "32 segments, span " ++ (name ++ (ascii ": " ++ (decimalOf n ++ ascii "\n")))
 
--- what a number is to the root, in words
-abbrev pub caseOf : RootCase → List ℕ
-caseOf Zero = ascii "zero"
-caseOf NotFinite = ascii "not finite"
-caseOf Negative = ascii "negative"
-caseOf Subnormal = ascii "subnormal"
-caseOf EvenExponent = ascii "even exponent"
-caseOf OddExponent = ascii "odd exponent"
+-- the name of a case of the root
+abbrev pub caseName : RootCase → List ℕ
+caseName Zero = ascii "zero"
+caseName NotFinite = ascii "not finite"
+caseName Negative = ascii "negative"
+caseName Subnormal = ascii "subnormal"
+caseName EvenExponent = ascii "even exponent"
+caseName OddExponent = ascii "odd exponent"
 
 -- a root, with its number by name and that number's case
 abbrev pub rootOf : List ℕ → RootCase → Float → List ℕ
 rootOf name k x =
-    ascii "root of " ++ (name ++ (ascii ", " ++ (caseOf k ++ (ascii ": " ++ (floatBitsOf (toBits binary64 x) ++ ascii "\n")))))
+    ascii "root of " ++ (name ++ (ascii ", " ++ (caseName k ++ (ascii ": " ++ (floatBitsOf (toBits binary64 x) ++ ascii "\n")))))
 
 -- whether a mesh is closed
 unfoldable pub borderOf : Bool → List ℕ

@@ -1,5 +1,5 @@
 // Segments of arcs, and roots.
-ghost use Rattle.figures_lines.specs.Figures.{arcOf, caseOf, rootOf};
+ghost use Rattle.figures_lines.specs.Figures.{arcOf, caseName, rootOf};
 ghost use Rattle.slice_text.specs.Line.{line, Puts};
 use figures_text::put_count;
 use figures_text::put_float;
@@ -17,9 +17,9 @@ pub fn put_arc(out: &mut [u8], at: usize, name: &[u8], segments: usize) -> usize
     put(out, to, b"\n")
 }
 
-// What a number is to the root, in words.
+// The name of a case of the root.
 fn put_case(out: &mut [u8], at: usize, case: RootCase) -> usize
-    ensures { λ r. ⌜ Puts (caseOf case) (line (now (out .entry)) at) (line (now (out .exit)) r) ⌝ }
+    ensures { λ r. ⌜ Puts (caseName case) (line (now (out .entry)) at) (line (now (out .exit)) r) ⌝ }
 {
     match case {
         RootCase::Zero => put(out, at, b"zero"),

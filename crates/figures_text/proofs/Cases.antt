@@ -3,7 +3,7 @@ use mathlib.Core.Path.{_≡_}
 use mathlib.Core.Bool.{Bool, true, false, _&&_, false≢true}
 use mathlib.Core.List.{_++_}
 use Prim.Native.Nat.{ℕ, _-_, _/_, _%_, _≤_, _<_}
-use borrow.Author.Tests.{lt-ltb, le-ltb, ltb-true}
+use borrow.Author.Tests.{lt-ltb, le-ltb, ltb-true, eq-eqb, ne-eqb}
 use lib.Dec.{eqb, ltb, leb}
 use lib.Ieee.{Float, binary64, ofBits, add, sub}
 use Rattle.ieee_whole.specs.Whole.{ceiling}
@@ -28,9 +28,19 @@ pub power-text : (b : ℕ) {l m : Line} → isSmallPower b ≡ true → Puts (as
 unfolding byBitsOf
 power-text b e p = rw e p
 
-pub bits-text : (b : ℕ) {l m : Line} → isSmallPower b ≡ false → Puts (hexOf b) l m → Puts (byBitsOf b) l m
+pub inf-text : (b : ℕ) {l m : Line} → isSmallPower b ≡ false → b ≡ 0x7FF0000000000000 → Puts (ascii "inf") l m → Puts (byBitsOf b) l m
 unfolding byBitsOf
-bits-text b e p = rw e p
+inf-text b e i p = rw (e, eq-eqb b _ i) p
+
+pub nan-text : (b : ℕ) {l m : Line}
+    → isSmallPower b ≡ false → (b ≡ 0x7FF0000000000000 → ⊥) → 0x7FF0000000000000 < b → Puts (ascii "NaN") l m → Puts (byBitsOf b) l m
+unfolding byBitsOf
+nan-text b e i h p = rw (e, ne-eqb b _ i, lt-ltb _ b h) p
+
+pub bits-text : (b : ℕ) {l m : Line}
+    → isSmallPower b ≡ false → (b ≡ 0x7FF0000000000000 → ⊥) → b ≤ 0x7FF0000000000000 → Puts (hexOf b) l m → Puts (byBitsOf b) l m
+unfolding byBitsOf
+bits-text b e i h p = rw (e, ne-eqb b _ i, le-ltb _ b h) p
 
 pub whole-text : (b : ℕ) {y : Float} {k : ℕ} {l m : Line}
     → y ≡ ofBits binary64 b → isWhole y ≡ true → k ≡ ceiling y → Puts (decimalOf k) l m → Puts (magnitudeOf b) l m

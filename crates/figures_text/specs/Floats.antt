@@ -17,9 +17,13 @@ isWhole y = lt y (ofBits binary64 0x430C6BF526340000) && eq (wholeOf y .value) y
 unfoldable pub isSmallPower : ℕ → Bool
 isSmallPower b = (eqb (b % 4503599627370496) 0 && ltb 0 (b / 4503599627370496)) && ltb (b / 4503599627370496) 1023
 
--- 2^-k as such, any other float as the 16 hexadecimal digits of its bits
+-- bits without a sign: 2^-k as such; inf; NaN, of which the bits are above those of inf; any other float as the 16 hexadecimal digits of its bits
 unfoldable pub byBitsOf : ℕ → List ℕ
-byBitsOf b = cond (isSmallPower b) (ascii "2^-" ++ decimalOf (1023 - b / 4503599627370496)) (hexOf b)
+byBitsOf b =
+    cond (isSmallPower b) (ascii "2^-" ++ decimalOf (1023 - b / 4503599627370496))
+    (cond (eqb b 0x7FF0000000000000) (ascii "inf")
+    (cond (ltb 0x7FF0000000000000 b) (ascii "NaN")
+    (hexOf b)))
 
 -- one half
 abbrev pub half : Float

@@ -1,4 +1,4 @@
-// Floats: whole numbers and halves in decimal, 2^-k for k from 2 to 1,022 as such, any other by its bits; 2^-1 is 0.5.
+// Floats: whole numbers and halves in decimal, 2^-k for k from 2 to 1,022 as such, inf, NaN, any other by 16 hexadecimal digits; 2^-1 is 0.5.
 ghost use mathlib.Core.Path.{_≡_};
 ghost use lib.Ieee.{binary64, toBits};
 ghost use Rattle.figures_text.specs.Floats.{isWhole, isSmallPower, byBitsOf, magnitudeOf, floatBitsOf};
@@ -26,13 +26,19 @@ fn is_small_power(b: u64) -> bool
     (b % 4503599627370496 == 0) & (0 < exponent) & (exponent < 1023)
 }
 
-// A float by its bits: 2^-k as such, any other as 16 hexadecimal digits.
+// A float by its bits: 2^-k as such, inf, NaN, any other as 16 hexadecimal digits.
 fn put_by_bits(out: &mut [u8], at: usize, b: u64) -> usize
     ensures { λ r. ⌜ Puts (byBitsOf b) (line (now (out .entry)) at) (line (now (out .exit)) r) ⌝ }
 {
     if is_small_power(b) {
         let to = put(out, at, b"2^-");
         return put_decimal(out, to, 1023 - b / 4503599627370496);
+    }
+    if b == 0x7FF0000000000000 {
+        return put(out, at, b"inf");
+    }
+    if 0x7FF0000000000000 < b {
+        return put(out, at, b"NaN");
     }
     put_hex(out, at, b)
 }
