@@ -121,13 +121,16 @@ fn compare(name: &str, groups: &[Group], n: u64, rng: &mut Rng, mut agrees: impl
 }
 
 fn times(rng: &mut Rng) {
-    let mut of_field = |a, b| -> Vec<f64> { (0..4096).map(|_| inputs::with_field(rng, a, b)).collect() };
-    let (normal, subnormal) = (of_field(1, 2046), of_field(0, 0));
-    let (one_to_two, two_to_four) = (of_field(1023, 1023), of_field(1024, 1024));
+    let mut of_field = |n, a, b| -> Vec<f64> { (0..n).map(|_| inputs::with_field(rng, a, b)).collect() };
+    let (normal, subnormal) = (of_field(4096, 1, 2046), of_field(4096, 0, 0));
+    let (one_to_two, two_to_four) = (of_field(4096, 1023, 1023), of_field(4096, 1024, 1024));
+    // So many that the processor cannot foretell which exponent is even.
+    let many = of_field(65_536, 1, 2046);
     let angles: Vec<f64> = (0..4096).map(|_| 2000.0 * rng.unit() - 1000.0).collect();
     let roots: [(&str, Call); 2] = [("sqrt, ours", sizturga_sqrt), ("sqrt, hardware", hardware_sqrt)];
     let sines: [(&str, Call); 2] = [("sin_cos, ours", sizturga_sin), ("sin_cos, the text in Rust", text_sin)];
     by_turns(roots, "", &normal, round::<false>);
+    by_turns(roots, ", 65,536 numbers", &many, round::<false>);
     by_turns(roots, ", even exponent", &one_to_two, round::<false>);
     by_turns(roots, ", odd exponent", &two_to_four, round::<false>);
     by_turns(roots, ", subnormal", &subnormal, round::<false>);
