@@ -38,7 +38,10 @@ start-normal b zero d p h = absurd (lt-irrefl 0 p)
 start-normal b (suc x) d p h =
     ap (sqrt binary64) (read-normal b x d h)
     ∙ sqrt-units (2 ^ 52 + b % 2 ^ 52) x (omega arith)
-    ∙ ap (rootUnits binary64) (join (2 ^ 52 + b % 2 ^ 52) x ∙ ap (λ (q : ℕ). q * 2 ^ (x + 1074)) (add-comm (2 ^ 52) (b % 2 ^ 52)) ∙ ap (λ (k : ℕ). (b % 2 ^ 52 + 2 ^ 52) * 2 ^ k) (omega arith))
+    ∙ ap (rootUnits binary64)
+    (join (2 ^ 52 + b % 2 ^ 52) x
+    ∙ ap (λ (q : ℕ). q * 2 ^ (x + 1074)) (add-comm (2 ^ 52) (b % 2 ^ 52))
+    ∙ ap (λ (k : ℕ). (b % 2 ^ 52 + 2 ^ 52) * 2 ^ k) (omega arith))
 
 halves : (m j k : ℕ) → j ≡ 52 + (k + k) → m * 2 ^ j ≡ m * 2 ^ 52 * (2 ^ k * 2 ^ k)
 halves m j k e =
@@ -67,12 +70,14 @@ scaled-root m j k a b e =
 abbrev pub Normal : ℕ → ℕ → Type 0
 Normal r b = (2 ^ 52 ≤ b) × (b < 2047 * 2 ^ 52) × (b / 2 ^ 52 % 2 ≡ r)
 
-at-even : (b : ℕ) → Normal 1 b → sqrt binary64 (ofBits binary64 b) ≡ units binary64 false (nearRoot ((b % 2 ^ 52 + 2 ^ 52) * 2 ^ 52)) ((b / 2 ^ 52 + 1021) / 2)
+at-even : (b : ℕ) → Normal 1 b
+    → sqrt binary64 (ofBits binary64 b) ≡ units binary64 false (nearRoot ((b % 2 ^ 52 + 2 ^ 52) * 2 ^ 52)) ((b / 2 ^ 52 + 1021) / 2)
 at-even b (l, h, p) =
     start-normal b (b / 2 ^ 52) refl (omega arith) (omega arith)
     ∙ scaled-root (b % 2 ^ 52 + 2 ^ 52) (1073 + b / 2 ^ 52) ((b / 2 ^ 52 + 1021) / 2) (omega arith) (omega arith) (omega arith)
 
-at-odd : (b : ℕ) → Normal 0 b → sqrt binary64 (ofBits binary64 b) ≡ units binary64 false (nearRoot (2 * (b % 2 ^ 52 + 2 ^ 52) * 2 ^ 52)) ((b / 2 ^ 52 + 1020) / 2)
+at-odd : (b : ℕ) → Normal 0 b
+    → sqrt binary64 (ofBits binary64 b) ≡ units binary64 false (nearRoot (2 * (b % 2 ^ 52 + 2 ^ 52) * 2 ^ 52)) ((b / 2 ^ 52 + 1020) / 2)
 at-odd b (l, h, p) =
     start-normal b (b / 2 ^ 52) refl (omega arith) (omega arith)
     ∙ ap (rootUnits binary64) (doubled (b % 2 ^ 52 + 2 ^ 52) (1073 + b / 2 ^ 52) (omega arith))
@@ -109,7 +114,8 @@ quarter b f n j e =
     ∙ ap (λ (x : ℕ). b * x) (pow-add 2 (f + f) j ∙ ap (λ (x : ℕ). x * 2 ^ j) (sym (four-pow f)))
     ∙ sym (mul-assoc b (4 ^ f) (2 ^ j))
 
-at-subnormal : (b f : ℕ) → 0 < b → b < 2 ^ 52 → Quadrupled b f → sqrt binary64 (ofBits binary64 b) ≡ units binary64 false (nearRoot (b * 4 ^ f * 2 ^ 52)) (511 - f)
+at-subnormal : (b f : ℕ) → 0 < b → b < 2 ^ 52 → Quadrupled b f
+    → sqrt binary64 (ofBits binary64 b) ≡ units binary64 false (nearRoot (b * 4 ^ f * 2 ^ 52)) (511 - f)
 at-subnormal b f p h d =
     let r : b % 2 ^ 52 ≡ b = omega arith in
     let few : f ≤ 26 = d .few in

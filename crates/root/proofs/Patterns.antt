@@ -4,35 +4,24 @@ use mathlib.Core.Bool.{Bool, false, not, cond}
 use Prim.Native.Nat.{ℕ, zero, suc, _+_, _*_, _/_, _%_, _^_, _≤_, _<_}
 use native.Mathlib.Nat.{lt-of-lt-of-le, pow-succ'}
 use native.Mathlib.Omega.{arith}
-use lib.Dec.{T, leb, eqb}
+use lib.Dec.{T}
 use lib.Pow.{pow-mono, shl-lt}
 use lib.Count.{trailingZeros, under}
-use lib.Ieee.{nan, inf, fin, binary64, minus, odd, units, ofFields, ofBits, nanBits}
-use borrow.Author.Tests.{lt-ltb, le-ltb, lt-leb, ne-eqb}
+use lib.Ieee.{inf, fin, binary64, minus, odd, units, ofFields, ofBits, nanBits}
+use borrow.Author.Tests.{lt-ltb, le-ltb, lt-leb}
 use lib.Ieee.Bits.{nanBits-above}
+use Rattle.root_case.proofs.Pattern.{ofBits-is, low-field, normal-field}
 
 -- ---- reading a pattern by its fields
 
 same : {s s′ : Bool} {x x′ t t′ : ℕ} → s ≡ s′ → x ≡ x′ → t ≡ t′ → ofFields binary64 s x t ≡ ofFields binary64 s′ x′ t′
-same {s} {s′} {x} {x′} {t} {t′} p q r = ap (λ (a : Bool). ofFields binary64 a x t) p ∙ ap (λ (a : ℕ). ofFields binary64 s′ a t) q ∙ ap (λ (a : ℕ). ofFields binary64 s′ x′ a) r
-
-pub ofBits-is : (b : ℕ) → ofBits binary64 b ≡ ofFields binary64 (leb (2 ^ 63) b) (b % 2 ^ 63 / 2 ^ 52) (b % 2 ^ 52)
-unfolding ofBits
-ofBits-is b = refl
-
-at-zero : (s : Bool) (t : ℕ) → ofFields binary64 s 0 t ≡ odd 53 s t 0 1074
-unfolding ofFields
-at-zero s t = refl
-
-at-normal : (s : Bool) (x t : ℕ) → suc x < 2047 → ofFields binary64 s (suc x) t ≡ odd 53 s (2 ^ 52 + t) x 1074
-unfolding ofFields
-at-normal s x t h = ap (λ (b : Bool). cond b (cond (eqb t 0) (inf s) nan) (odd 53 s (2 ^ 52 + t) x 1074)) (ne-eqb (suc x) 2047 (omega arith))
+same p q r = λ i. ofFields binary64 (p i) (q i) (r i)
 
 pub read-low : (b : ℕ) → b < 2 ^ 52 → ofBits binary64 b ≡ odd 53 false (b % 2 ^ 52) 0 1074
-read-low b h = ofBits-is b ∙ same (lt-leb (2 ^ 63) b (omega arith)) (omega arith) refl ∙ at-zero false (b % 2 ^ 52)
+read-low b h = ofBits-is b ∙ same (lt-leb (2 ^ 63) b (omega arith)) (omega arith) refl ∙ low-field false (b % 2 ^ 52)
 
 pub read-normal : (b x : ℕ) → b / 2 ^ 52 ≡ suc x → suc x < 2047 → ofBits binary64 b ≡ odd 53 false (2 ^ 52 + b % 2 ^ 52) x 1074
-read-normal b x e h = ofBits-is b ∙ same (lt-leb (2 ^ 63) b (omega arith)) (omega arith) refl ∙ at-normal false x (b % 2 ^ 52) h
+read-normal b x e h = ofBits-is b ∙ same (lt-leb (2 ^ 63) b (omega arith)) (omega arith) refl ∙ normal-field false x (b % 2 ^ 52) (λ f. omega arith)
 
 -- ---- writing the result
 

@@ -93,7 +93,7 @@ number (fin t m e) s a c p h =
 
 -- ---- what the fields are read as
 
-ofBits-is : (b : ℕ) → ofBits binary64 b ≡ ofFields binary64 (leb (2 ^ 63) b) (field b) (b % 2 ^ 52)
+pub ofBits-is : (b : ℕ) → ofBits binary64 b ≡ ofFields binary64 (leb (2 ^ 63) b) (field b) (b % 2 ^ 52)
 unfolding ofBits
 ofBits-is b = refl
 
@@ -113,12 +113,12 @@ top-field s t = go (eqb t 0)
     go false = (refl, refl)
 
 -- a field of 0: no leading digit
-low-field : (s : Bool) (t : ℕ) → ofFields binary64 s 0 t ≡ odd 53 s t 0 1074
+pub low-field : (s : Bool) (t : ℕ) → ofFields binary64 s 0 t ≡ odd 53 s t 0 1074
 unfolding ofFields
 low-field s t = refl
 
 -- a field between: the leading digit is 2 ^ 52
-normal-field : (s : Bool) (x t : ℕ) → (suc x ≡ 2047 → ⊥) → ofFields binary64 s (suc x) t ≡ odd 53 s (2 ^ 52 + t) x 1074
+pub normal-field : (s : Bool) (x t : ℕ) → (suc x ≡ 2047 → ⊥) → ofFields binary64 s (suc x) t ≡ odd 53 s (2 ^ 52 + t) x 1074
 unfolding ofFields
 normal-field s x t h = ap (λ (b : Bool). cond b (cond (eqb t 0) (inf s) nan) (odd 53 s (2 ^ 52 + t) x 1074)) (ne-eqb (suc x) 2047 h)
 

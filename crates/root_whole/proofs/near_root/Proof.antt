@@ -47,7 +47,9 @@ passed c =
 
 div-l : tie.Need-div-l
 div-l c =
-    omega (arith, enough-digits (c .before .before .before .args .m) (c .before .before .guess .result) (c .before .wrapping-sub-u64 .result) (omega arith) (whole c) (omega arith))
+    let m = c .before .before .before .args .m in
+    let h = c .before .before .guess .result in
+    omega (arith, enough-digits m h (c .before .wrapping-sub-u64 .result) (omega arith) (whole c) (omega arith))
 
 rem-d : tie.Need-rem-d
 rem-d c = div-l c
