@@ -2,7 +2,7 @@
 ghost use mathlib.Core.Path.{_≡_};
 ghost use Rattle.root_case.specs.Case.{rootCase};
 ghost use Rattle.root.specs.Rounded.{Root};
-ghost use Rattle.trig.specs.Trig.{sinCos};
+ghost use Rattle.trig_spec.specs.Trig.{sinCos};
 ghost use Rattle.c_numbers.specs.Places.{placeOf};
 use root_case::RootCase;
 use root_case::root_case;

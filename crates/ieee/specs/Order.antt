@@ -11,11 +11,11 @@ use Rattle.ieee.specs.Same.{or-split}
 use Rattle.ieee.specs.Total.{total, lt→le}
 
 -- ---- finite numbers as differences: ±a is plus − minus
-abbrev plus : Bool → ℕ → ℕ
+abbrev pub plus : Bool → ℕ → ℕ
 plus false a = a
 plus true a = 0
 
-abbrev minus : Bool → ℕ → ℕ
+abbrev pub minus : Bool → ℕ → ℕ
 minus false a = 0
 minus true a = a
 
@@ -34,7 +34,7 @@ level-same true x d false y c h = omega arith
 level-same true x d true y c h = omega (arith, eqb→eq (x * d) (y * c) (and-l (eqb (x * d) (y * c)) true h))
 
 -- ±x / c ≤ ±y / d
-at-most : (s : Bool) (x d : ℕ) (t : Bool) (y c : ℕ) → T (below s (x * d) t (y * c) || level s (x * d) t (y * c))
+pub at-most : (s : Bool) (x d : ℕ) (t : Bool) (y c : ℕ) → T (below s (x * d) t (y * c) || level s (x * d) t (y * c))
     → plus s x * d + minus t y * c ≤ plus t y * c + minus s x * d
 at-most s x d t y c h = go (or-split (below s (x * d) t (y * c)) (level s (x * d) t (y * c)) h)
   where

@@ -2,7 +2,7 @@
 use lib.Ieee.{Float, binary64, add, sub, mul}
 use Rattle.ieee.specs.Same.{plusZero}
 use Rattle.trig.specs.declared.Radians.{Radians}
-use Rattle.trig.specs.Trig.{sinCos}
+use Rattle.trig_spec.specs.Trig.{sinCos}
 use Rattle.math.specs.declared.Vec3.{Vec3}
 use Rattle.math.specs.Vec.{one, normalized}
 use Rattle.math_matrix.specs.declared.Mat4.{Mat4}

@@ -10,7 +10,7 @@ use lib.Dec.{ltb, eqb}
 use lib.ListN.{length, length-append, length-take}
 use lib.Ieee.{Float, binary64, add, sub, ne, lt, ofBits}
 use Rattle.ieee.specs.Number.{absolute, tau}
-use Rattle.trig.specs.Trig.{sinCos}
+use Rattle.trig_spec.specs.Trig.{sinCos}
 use Rattle.math.specs.declared.Vec3.{Vec3}
 use Rattle.mesh_balance_spec.specs.Soup.{Tri, mapTri, flipTri}
 use Rattle.outline.specs.Corners.{point}

@@ -9,7 +9,7 @@ use lib.Dec.{lit≤}
 use lib.Ieee.{fin, add, sub, mul, div, neg, ofInt, ofBits, eq, lt, le, isNan, fits}
 use Rattle.ieee.specs.Number.{plusZero, minimum, maximum, absolute, tau}
 use Rattle.ieee_whole.specs.Whole.{ceiling}
-use Rattle.trig.specs.Trig.{sinCos}
+use Rattle.trig_spec.specs.Trig.{sinCos}
 use Rattle.math.specs.declared.Vec3.{Vec3}
 use Rattle.math.specs.Vec.{new, one, zeroV, vAdd, vMul, vMin, vMax, vFinite}
 use Rattle.mesh_balance_spec.specs.Soup.{Balanced, mapTri}

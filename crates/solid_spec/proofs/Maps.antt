@@ -8,8 +8,8 @@ use lib.Ieee.Fits.{mul-fits}
 use lib.Ieee.Scale.{finite}
 use Rattle.ieee.specs.Finite.{finite-add-l, finite-add-r, finite-mul-l, finite-mul-r}
 use Rattle.ieee.specs.Same.{mul-same}
-use Rattle.trig.specs.Trig.{sinCos}
-use Rattle.trig.specs.TrigLaws.{at-nan, at-inf, sin-same, cos-same}
+use Rattle.trig_spec.specs.Trig.{sinCos}
+use Rattle.trig_spec.specs.TrigLaws.{at-nan, at-inf, sin-same, cos-same}
 use Rattle.math.specs.declared.Vec3.{Vec3}
 use Rattle.math.specs.Vec.{vAdd, vMul}
 use Rattle.solid_spec.specs.Coords.{cylindricalToCartesian, toCartesian}
@@ -35,7 +35,7 @@ pub cylindrical-respects : Respects cylindricalToCartesian
 unfolding cylindricalToCartesian
 cylindrical-respects p q s = record {
   x = mul-same binary64 (p .x) (q .x) (sinCos (p .y) .cos) (sinCos (q .y) .cos) (s .x) (inl (cos-same (p .y) (q .y) (s .y)));
-  y = mul-same binary64 (p .x) (q .x) (sinCos (p .y) .sin) (sinCos (q .y) .sin) (s .x) (sin-same (p .y) (q .y) (s .y));
+  y = mul-same binary64 (p .x) (q .x) (sinCos (p .y) .sin) (sinCos (q .y) .sin) (s .x) (inl (sin-same (p .y) (q .y) (s .y)));
   z = s .z;
 }
 
@@ -54,7 +54,7 @@ module _ (a d e1 e2 : Vec3) where
       vAdd-same _ _ _ _ (vAdd-same a a _ _ (sameV-refl a) (vMul-same d d (p .z) (q .z) (sameV-refl d) (s .z)))
       (vMul-same _ _ (p .x) (q .x)
       (vAdd-same _ _ _ _ (vMul-same e1 e1 _ _ (sameV-refl e1) (inl (cos-same (p .y) (q .y) (s .y))))
-      (vMul-same e2 e2 _ _ (sameV-refl e2) (sin-same (p .y) (q .y) (s .y)))) (s .x))
+      (vMul-same e2 e2 _ _ (sameV-refl e2) (inl (sin-same (p .y) (q .y) (s .y))))) (s .x))
 
   pub around-shows : Shows (aroundAxis a d e1 e2)
   unfolding aroundAxis vAdd vMul

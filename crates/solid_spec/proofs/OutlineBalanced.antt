@@ -10,7 +10,7 @@ use lib.Dec.{ltb}
 use lib.ListN.{length}
 use lib.Ieee.{Float, binary64, add, sub, mul, div, ofInt, ne}
 use Rattle.ieee.specs.Number.{absolute, tau}
-use Rattle.trig.specs.Trig.{sinCos}
+use Rattle.trig_spec.specs.Trig.{sinCos}
 use Rattle.math.specs.declared.Vec3.{Vec3}
 use Rattle.outline.specs.Corners.{point}
 use Rattle.mesh_balance_spec.specs.Soup.{Tri, Balanced, balanced-map}

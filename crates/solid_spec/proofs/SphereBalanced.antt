@@ -13,8 +13,8 @@ use Rattle.ieee.specs.Number.{plusZero, pi, tau}
 use Rattle.ieee.specs.Finite.{finite-add-r, finite-mul-l, finite-mul-r}
 use Rattle.ieee.specs.Same.{T-true}
 use Rattle.ieee.specs.Ends.{pole}
-use Rattle.trig.specs.declared.SinCos.{SinCos}
-use Rattle.trig.specs.Trig.{sinCos}
+use Rattle.trig_spec.specs.declared.SinCos.{SinCos}
+use Rattle.trig_spec.specs.Trig.{sinCos}
 use Rattle.math.specs.declared.Vec3.{Vec3}
 use Rattle.math.specs.Vec.{new, one, vAdd, vMul}
 use Rattle.mesh_balance_spec.specs.Soup.{Balanced, mapTri}

@@ -1,7 +1,7 @@
 -- `cylindrical_to_cartesian` of src/coords.rs and `CoordSystem::to_cartesian`. A coordinate system is a Bool: true is cylindrical. Definitions only.
 use mathlib.Core.Bool.{Bool, cond}
 use lib.Ieee.{binary64, mul}
-use Rattle.trig.specs.Trig.{sinCos}
+use Rattle.trig_spec.specs.Trig.{sinCos}
 use Rattle.math.specs.declared.Vec3.{Vec3}
 use Rattle.math.specs.Vec.{new}
 

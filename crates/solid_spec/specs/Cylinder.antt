@@ -4,7 +4,7 @@ use mathlib.Core.Bool.{Bool, true, false, cond, _||_}
 use Prim.Native.Nat.{ℕ, max}
 use lib.Ieee.{Float, binary64, add, sub, ofBits, eq, le, lt}
 use Rattle.ieee.specs.Number.{plusZero, maximum, absolute, tau}
-use Rattle.trig.specs.Trig.{sinCos}
+use Rattle.trig_spec.specs.Trig.{sinCos}
 use Rattle.math.specs.declared.Vec3.{Vec3}
 use Rattle.math.specs.Vec.{unit, vAdd, vSub, vMul, vDiv, cross, norm, normalized}
 use Rattle.solid_spec.specs.Grid.{Soup}

@@ -6,8 +6,8 @@ use lib.IntN.{pos}
 use lib.Dec.{eqb}
 use lib.Ieee.{Float, binary64, add, sub, mul, div, neg, ofInt, ofBits, le, lt}
 use Rattle.ieee.specs.Number.{plusZero, pi, tau}
-use Rattle.trig.specs.declared.SinCos.{SinCos}
-use Rattle.trig.specs.Trig.{sinCos}
+use Rattle.trig_spec.specs.declared.SinCos.{SinCos}
+use Rattle.trig_spec.specs.Trig.{sinCos}
 use Rattle.math.specs.declared.Vec3.{Vec3}
 use Rattle.math.specs.Vec.{new, one, vAdd, vMul}
 use Rattle.solid_spec.specs.Grid.{Soup, grid}

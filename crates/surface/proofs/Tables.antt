@@ -9,8 +9,8 @@ use borrow.Author.Count.{below-more}
 use lib.ListN.{length, set, getD, length-set}
 use lib.Seq.{getD-set-same, getD-set-other}
 use lib.Ieee.{Float, nan}
-use Rattle.trig.specs.declared.SinCos.{SinCos}
-use Rattle.trig.specs.Trig.{sinCos}
+use Rattle.trig_spec.specs.declared.SinCos.{SinCos}
+use Rattle.trig_spec.specs.Trig.{sinCos}
 use Rattle.surface_spec.specs.declared.Line.{Line}
 use Rattle.solid_spec.specs.Sphere.{latitude, longitude}
 use Rattle.solid_spec.specs.Outline.{angle}

@@ -2,8 +2,8 @@
 use mathlib.Core.List.{List}
 use Prim.Native.Nat.{ℕ, _%_}
 use lib.Ieee.{Float}
-use Rattle.trig.specs.declared.SinCos.{SinCos}
-use Rattle.trig.specs.Trig.{sinCos}
+use Rattle.trig_spec.specs.declared.SinCos.{SinCos}
+use Rattle.trig_spec.specs.Trig.{sinCos}
 use Rattle.math.specs.declared.Vec3.{Vec3}
 use Rattle.outline.specs.Corners.{point}
 use Rattle.surface_spec.specs.declared.Line.{Line}

@@ -12,7 +12,7 @@ use math::Vec3;
 use surface_spec::Chart;
 use surface_spec::Line;
 use surface_spec::Surface;
-use trig::SinCos;
+use trig_spec::SinCos;
 
 // A point in cylindrical coordinates: the radius x, the sine and cosine of the angle, the height z.
 pub struct Polar {

@@ -4,7 +4,7 @@ ghost use Prim.Native.Nat.{_+_, _*_, _≤_};
 ghost use lib.ListN.{length};
 ghost use Rattle.surface.specs.Turns.{turnAt, TurnsWithin, entry as entry·, Filled};
 use surface_spec::Line;
-use trig::SinCos;
+use trig_spec::SinCos;
 
 // A kind of sines and cosines by number: of a sphere's rows or segments, of an axis that is an angle, of a rotated outline's steps.
 pub enum Turns {

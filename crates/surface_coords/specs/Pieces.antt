@@ -2,7 +2,7 @@
 use mathlib.Core.Bool.{cond}
 use lib.Ieee.{Float, binary64, mul, ofBits, lt}
 use Rattle.ieee.specs.Number.{absolute}
-use Rattle.trig.specs.declared.SinCos.{SinCos}
+use Rattle.trig_spec.specs.declared.SinCos.{SinCos}
 use Rattle.math.specs.declared.Vec3.{Vec3}
 use Rattle.math.specs.Vec.{new, unit, vAdd, vMul}
 

@@ -4,7 +4,7 @@ ghost use Rattle.solid_spec.specs.Coords.{cylindricalToCartesian, toCartesian};
 ghost use Rattle.solid_spec.specs.Cylinder as Cylinder;
 ghost use Rattle.surface_coords.specs.Pieces as Pieces;
 use math::Vec3;
-use trig::SinCos;
+use trig_spec::SinCos;
 
 // (x * cos, x * sin, z).
 pub fn cylindrical_by(t: SinCos, x: f64, z: f64) -> Vec3

@@ -1,6 +1,6 @@
 -- A part of a definition of `solid_spec`, for the function that computes it: a subterm of the definition that its comment names. Definitions only.
 use Prim.Native.Nat.{ℕ}
-use Rattle.trig.specs.declared.SinCos.{SinCos}
+use Rattle.trig_spec.specs.declared.SinCos.{SinCos}
 use Rattle.math.specs.declared.Vec3.{Vec3}
 use Rattle.math.specs.Vec.{unit, vAdd, vMul, cross}
 

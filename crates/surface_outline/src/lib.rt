@@ -6,7 +6,7 @@ ghost use Rattle.surface_outline.specs.Pieces as Pieces;
 use ieee::TAU;
 use math::Vec3;
 use outline::Point;
-use trig::SinCos;
+use trig_spec::SinCos;
 
 // The corner c of an outline in the plane with the normal n, at the height h.
 pub fn plane_point(n: usize, c: Point, h: f64) -> Vec3

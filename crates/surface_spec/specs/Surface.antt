@@ -3,7 +3,7 @@ use mathlib.Core.List.{List}
 use mathlib.Core.Bool.{Bool}
 use Prim.Native.Nat.{ℕ, _%_}
 use lib.Ieee.{Float}
-use Rattle.trig.specs.Trig.{sinCos}
+use Rattle.trig_spec.specs.Trig.{sinCos}
 use Rattle.math.specs.declared.Vec3.{Vec3}
 use Rattle.math.specs.Vec.{axis}
 use Rattle.outline.specs.Corners.{point}

@@ -5,8 +5,8 @@ use borrow.Author.Tests.{eq-eqb, ne-eqb}
 use lib.IntN.{pos}
 use lib.Ieee.{binary64, mul, div, neg, ofInt}
 use Rattle.ieee.specs.Number.{plusZero, pi}
-use Rattle.trig.specs.declared.SinCos.{SinCos}
-use Rattle.trig.specs.Trig.{sinCos}
+use Rattle.trig_spec.specs.declared.SinCos.{SinCos}
+use Rattle.trig_spec.specs.Trig.{sinCos}
 use Rattle.math.specs.Vec.{one}
 use Rattle.solid_spec.specs.Sphere.{latitude}
 

@@ -5,7 +5,7 @@ ghost use Rattle.solid_spec.specs.Sphere as Sphere;
 use ieee::PI;
 use ieee::TAU;
 use math::Vec3;
-use trig::SinCos;
+use trig_spec::SinCos;
 
 // The sine and cosine of row i of nt, exact at both poles.
 pub fn latitude(nt: usize, i: usize) -> SinCos

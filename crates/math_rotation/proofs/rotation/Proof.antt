@@ -17,7 +17,7 @@ turn-requires c κs = search needs
 returns : tie.Need-returns
 unfolding rotation
 returns c =
-    let p = c .before .before .sin-cos .ensures in
+    let p = c .before .before .sin-cos .ensures .value in
     c .turn .ensures ∙ (λ i. turn (c .before .normalized .ensures i) (p i .sin) (p i .cos))
 
 pub rotation-spec : {M : Type 1} → statement M

@@ -16,7 +16,7 @@ returns : tie.Need-returns
 unfolding cylindricalToCartesian cylindricalBy
 returns c =
     let p = c .before .before .args .p in
-    c .cylindrical-by .ensures ∙ (λ i. cylindricalBy (c .before .sin-cos .ensures i) (p .x) (p .z))
+    c .cylindrical-by .ensures ∙ (λ i. cylindricalBy (c .before .sin-cos .ensures .value i) (p .x) (p .z))
 
 pub cylindrical-to-cartesian-spec : {M : Type 1} → statement M
 cylindrical-to-cartesian-spec =

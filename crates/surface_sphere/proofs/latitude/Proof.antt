@@ -25,7 +25,7 @@ unfolding ofBits
 returns-2 c = latitude-south _ _ (c .before .if1 .left) (c .if2 .taken)
 
 returns-3 : tie.Need-returns-3
-returns-3 c = latitude-between _ _ _ (c .before .before .before .before .if1 .left) (c .before .before .before .if2 .left) (c .sin-cos .ensures)
+returns-3 c = latitude-between _ _ _ (c .before .before .before .before .if1 .left) (c .before .before .before .if2 .left) (c .sin-cos .ensures .value)
 
 pub latitude-spec : {M : Type 1} → statement M
 latitude-spec =

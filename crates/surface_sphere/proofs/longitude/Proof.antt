@@ -21,7 +21,7 @@ sin-cos-requires c κs = search needs
 
 returns : tie.Need-returns
 unfolding longitude
-returns c = c .sin-cos .ensures
+returns c = c .sin-cos .ensures .value
 
 pub longitude-spec : {M : Type 1} → statement M
 longitude-spec =

@@ -2,7 +2,7 @@
 use mathlib.Core.Path.{_≡_, refl, sym, ap}
 use Prim.Native.Nat.{ℕ, zero, suc}
 use lib.Ieee.{Float, neg}
-use Rattle.trig.specs.Trig.{quadrant}
+use Rattle.trig_spec.specs.Formula.{quadrant}
 use Rattle.trig.proofs.in_quadrant.Statement.{statement}
 use Rattle.trig.proofs.in_quadrant.Tie as tie
 

@@ -29,7 +29,7 @@ returns : tie.Need-returns
 returns c = let e = c .before .before .if1 .taken in polar-0 _ _ _ _ _ _ _ _ _ e (round-rows _ _ _ _ _ _ _ e (c .before .before .before .before .before .pre .1)) (c .before .entry .ensures) (c .line-at .ensures)
 
 returns-2 : tie.Need-returns-2
-returns-2 c = polar-1 _ _ _ _ _ _ _ _ _ (c .before .before .before .if2 .taken) (c .before .before .sin-cos .ensures) (c .before .line-at2 .ensures) (c .line-at3 .ensures)
+returns-2 c = polar-1 _ _ _ _ _ _ _ _ _ (c .before .before .before .if2 .taken) (c .before .before .sin-cos .ensures .value) (c .before .line-at2 .ensures) (c .line-at3 .ensures)
 
 returns-3 : tie.Need-returns-3
 returns-3 c =

@@ -1,6 +1,6 @@
 -- `surface::turns::turn_at` meets its contract. Assumes nothing.
 use Rattle.surface.proofs.Tables.{turns-as, turn-as, turn-latitude, turn-longitude, turn-on-line, turn-angle}
-use Rattle.trig.specs.Trig.{sinCos}
+use Rattle.trig_spec.specs.Trig.{sinCos}
 use mathlib.Core.Path.{_∙_, ap}
 use borrow.Author.Needs.{needs}
 use Rattle.surface.proofs.turns.turn_at.Statement.{statement}
@@ -43,10 +43,10 @@ returns-2 : tie.Need-returns-2
 returns-2 c = turn-as _ _ _ _ (c .before .before .t2 .given .1) (c .longitude .ensures ∙ turn-longitude _ _)
 
 returns-3 : tie.Need-returns-3
-returns-3 c = turn-as _ _ _ _ (c .before .before .before .t3 .given .1) (c .sin-cos .ensures ∙ ap sinCos (c .before .line-at .ensures) ∙ turn-on-line _ _)
+returns-3 c = turn-as _ _ _ _ (c .before .before .before .t3 .given .1) (c .sin-cos .ensures .value ∙ ap sinCos (c .before .line-at .ensures) ∙ turn-on-line _ _)
 
 returns-4 : tie.Need-returns-4
-returns-4 c = turn-as _ _ _ _ (c .before .before .before .t4 .given .1) (c .sin-cos2 .ensures ∙ ap sinCos (c .before .angle .ensures) ∙ turn-angle _ _ _ _ _)
+returns-4 c = turn-as _ _ _ _ (c .before .before .before .t4 .given .1) (c .sin-cos2 .ensures .value ∙ ap sinCos (c .before .angle .ensures) ∙ turn-angle _ _ _ _ _)
 
 pub turn-at-spec : {M : Type 1} → statement M
 turn-at-spec =
