@@ -15,7 +15,7 @@ use Rattle.ieee_whole.specs.WholeLaws.{nearest-zero, finite-whole}
 use Rattle.ieee_whole.specs.declared.Whole.{Whole}
 use Rattle.trig_spec.specs.declared.SinCos.{SinCos}
 use Rattle.trig_spec.specs.Formula.{constH, reduced, fromReduced, formula}
-use Rattle.trig_spec.specs.Trig.{quarterPoint, onAxis, quarters, atQuarters, sinCos}
+use Rattle.trig_spec.specs.Trig.{quarterPoint, onAxis, quarterNumbers, atQuarters, sinCos}
 use Rattle.trig_law.specs.Series.{SinCosOf}
 use Rattle.trig_law.proofs.Near.{sin-cos-of}
 use Rattle.trig.specs.Quarter.{isQuarterPoint}
@@ -35,7 +35,7 @@ abbrev Numbered : List ℤ → Type 0
 Numbered [] = Unit
 Numbered (m ∷ ms) = (numberOf (quarterPoint m) ≡ m) × (small m ≡ true) × Numbered ms
 
-all-numbered : Numbered quarters
+all-numbered : Numbered quarterNumbers
 unfolding quarterPoint nearestWhole constH mul ofInt ofBits le neg
 all-numbered =
     (refl, refl, (refl, refl, (refl, refl, (refl, refl, (refl, refl, (refl, refl, (refl, refl, (refl, refl, (refl, refl, tt)))))))))
@@ -83,11 +83,11 @@ module _ (x : Float) (t : T (fits binary64 x)) (r : SinCos) where
       go true h l = h refl
       go false h l = l refl
 
-  pub of-number : atQuarters quarters x r ≡ cond (isQuarterPoint x (ofInt binary64 (numberOf x))) (onAxis (mod4 (numberOf x))) r
+  pub of-number : atQuarters quarterNumbers x r ≡ cond (isQuarterPoint x (ofInt binary64 (numberOf x))) (onAxis (mod4 (numberOf x))) r
   unfolding q passes found
-  of-number = one-test quarters all-numbered (large (in-or-large q)) ∙ sym (ap (λ b. cond b (onAxis (mod4 q)) r) (test-is x q))
+  of-number = one-test quarterNumbers all-numbered (large (in-or-large q)) ∙ sym (ap (λ b. cond b (onAxis (mod4 q)) r) (test-is x q))
     where
-      large : In q quarters ⊎ (small q ≡ false) → In q quarters ⊎ (passes ≡ false)
+      large : In q quarterNumbers ⊎ (small q ≡ false) → In q quarterNumbers ⊎ (passes ≡ false)
       large (inl i) = inl i
       large (inr h) = inr (ap (λ b. b && eq x (quarterPoint q)) h)
 

@@ -13,7 +13,7 @@ use lib.Ieee.Fits.{round-is}
 use lib.Ieee.Order.{round-mono, kept, drop}
 use Rattle.ieee.specs.Same.{true-T}
 use Rattle.ieee.specs.Order.{le-trans}
-use Rattle.trig_spec.specs.Trig.{quarters}
+use Rattle.trig_spec.specs.Trig.{quarterNumbers}
 use Rattle.trig.specs.Quarter.{four}
 
 -- m from −4 to 4, as the code tests it
@@ -62,7 +62,7 @@ pub and-false : (u v : Bool) → v ≡ false → (u && v) ≡ false
 and-false true v h = h
 and-false false v h = refl
 
-pub in-or-large : (q : ℤ) → In q quarters ⊎ (small q ≡ false)
+pub in-or-large : (q : ℤ) → In q quarterNumbers ⊎ (small q ≡ false)
 unfolding ofInt
 in-or-large (negsuc zero) = inl (inr (inr (inr (inl refl))))
 in-or-large (negsuc (suc zero)) = inl (inr (inr (inl refl)))

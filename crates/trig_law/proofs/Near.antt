@@ -1,4 +1,4 @@
--- Sine and cosine of every x from −0.75 to 0.75 lie within 2 ^ -43 of their series: the proof reaches 63 * 2 ^ -49. Assumes nothing.
+-- Sine and cosine of every x from −0.75 to 0.75 lie within 63 * 2 ^ -49 of their series, and so within 2 ^ -43. Assumes nothing.
 use mathlib.Core.Path.{_≡_, refl, sym, ap, _∙_, subst}
 use mathlib.Core.Logic.{inl, inr}
 use Prim.Native.Nat.{ℕ, zero, suc, _+_, _*_, _^_, _≤_, _<_}
@@ -54,7 +54,7 @@ first-power n = pow-suc n 0 ∙ ap (λ x. x * n) (pow-zero n) ∙ one-mul n
 nine-terms : 9 ≤ terms
 nine-terms = lit≤ tt
 
--- x is ±a / b; the largest c with a proof here is 43
+-- x is ±a / b, and 2 ^ -c is no less than 63 * 2 ^ -49
 module _ (s : Bool) (a b : ℕ) (some : 0 < b) (h : 4 * a ≤ 3 * b) (c : ℕ) (fine : 63 * slack binary64 * 2 ^ c ≤ scale binary64) where
   plus-part : ℕ → ℕ
   plus-part k = part (a * a) (b * b) false terms k
@@ -147,7 +147,7 @@ not-quarter s m e t i =
     not-zero (inl p) = subst (λ y. T (isZero y)) (sym p) tt
     not-zero (inr z) = z .0
 
--- 63 roundings make no more than 2 ^ -43
+-- 63 times what one rounding may be off, 2 ^ -49, is no more than 2 ^ -43
 fine-enough : (n : ℕ) → n ≤ 43 → 63 * slack binary64 * 2 ^ n ≤ scale binary64
 fine-enough n h = le-trans (mul-le-mul-left (63 * slack binary64) (pow-mono {j = 43} h)) (lit≤ tt)
 

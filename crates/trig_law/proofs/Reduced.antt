@@ -17,7 +17,7 @@ use Rattle.ieee.specs.Same.{add-zero-same, round-zero-at}
 use Rattle.ieee.specs.Unique.{zero-exp, round-self}
 use Rattle.ieee_whole.specs.Whole.{halfUp, nearestWhole}
 use Rattle.ieee_whole.specs.WholeLaws.{half-up-nearest}
-use Rattle.trig_spec.specs.Formula.{factorial, constH, constA, constB, constC, reduced, overFactorial, horner, sineTerms, cosineTerms, sineSum, cosineSum}
+use Rattle.trig_spec.specs.Formula.{factorial, constH, constA, constB, constC, reduced, overFactorial, horner, sineCoefficients, cosineCoefficients, sineSum, cosineSum}
 use Rattle.trig_spec.specs.Formula.{quadrant, fromReduced, fromWhole, formula}
 use Rattle.trig_law.proofs.Rounded.{scale, slack, round-value}
 use Rattle.trig_law.proofs.Horner.{hornerIn, coefficients}
@@ -28,12 +28,12 @@ unfolding horner hornerIn
 horner-is z c [] = refl
 horner-is z c (d ∷ ds) = ap (λ x. add binary64 (mul binary64 x z) c) (horner-is z d ds)
 
-sine-terms : sineTerms ≡ coefficients binary64 true 8 3
-unfolding sineTerms coefficients factorial div ofInt round
+sine-terms : sineCoefficients ≡ coefficients binary64 true 8 3
+unfolding sineCoefficients coefficients factorial div ofInt round
 sine-terms = refl
 
-cosine-terms : cosineTerms ≡ coefficients binary64 true 8 2
-unfolding cosineTerms coefficients factorial div ofInt round
+cosine-terms : cosineCoefficients ≡ coefficients binary64 true 8 2
+unfolding cosineCoefficients coefficients factorial div ofInt round
 cosine-terms = refl
 
 first : (n : ℕ) → factorial n ≡ 1 → overFactorial n ≡ round binary64 false 1 (factorial n)
@@ -46,11 +46,11 @@ sumFrom k z = hornerIn binary64 z (round binary64 false 1 (factorial k)) (coeffi
 
 sine-sum : (z : Float) → sineSum z ≡ sumFrom 1 z
 unfolding sineSum factorial
-sine-sum z = horner-is z (overFactorial 1) sineTerms ∙ (λ i. hornerIn binary64 z (first 1 refl i) (sine-terms i))
+sine-sum z = horner-is z (overFactorial 1) sineCoefficients ∙ (λ i. hornerIn binary64 z (first 1 refl i) (sine-terms i))
 
 cosine-sum : (z : Float) → cosineSum z ≡ sumFrom 0 z
 unfolding cosineSum factorial
-cosine-sum z = horner-is z (overFactorial 0) cosineTerms ∙ (λ i. hornerIn binary64 z (first 0 refl i) (cosine-terms i))
+cosine-sum z = horner-is z (overFactorial 0) cosineCoefficients ∙ (λ i. hornerIn binary64 z (first 0 refl i) (cosine-terms i))
 
 -- ---- q = 0
 nearest-small : (p : Float) (s : Bool) (g l : ℕ) → 0 < l → HasValue p s g l → 2 * g < l → nearestWhole p ≡ pos 0

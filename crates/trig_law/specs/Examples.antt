@@ -3,7 +3,7 @@ use mathlib.Core.Path.{_≡_, refl}
 use Prim.Native.Nat.{ℕ, _*_, _^_, _<_}
 use lib.Dec.{lit≤, lit<}
 use lib.IntN.{ℤ, pos, negsuc, natAbs, pow, one, _*ℤ_}
-use lib.Ieee.{Float, binary64, ofBits, neg, le, add, sub, mul, div, ofInt}
+use lib.Ieee.{Float, nan, binary64, ofBits, neg, le, add, sub, mul, div, ofInt}
 use Rattle.trig_spec.specs.Formula.{factorial}
 use Rattle.trig_spec.specs.Trig.{sinCos}
 use Rattle.trig_law.specs.Series.{SignedFraction, difference, series, sineSeries, exactValue, InRange, NearSeries}
@@ -38,6 +38,15 @@ high-end = record { low = tt; high = tt }
 low-end : InRange (ofBits binary64 0xBFE8000000000000)
 unfolding ofBits neg le
 low-end = record { low = tt; high = tt }
+
+-- the float after 0.75 is not, and no NaN is
+past-the-end : InRange (ofBits binary64 0x3FE8000000000001) → ⊥
+unfolding ofBits neg le
+past-the-end i = i .high
+
+not-a-number : InRange nan → ⊥
+unfolding le
+not-a-number i = i .high
 
 -- ---- sine and cosine of 0.5 and of −0.75 lie within 2 ^ -40 of their series
 half : NearSeries 40 (ofBits binary64 0x3FE0000000000000) (sinCos (ofBits binary64 0x3FE0000000000000))

@@ -11,7 +11,7 @@ use Rattle.trig_spec.specs.declared.SinCos.{SinCos}
 use Rattle.trig_spec.specs.Formula.{factorial}
 use Rattle.trig_spec.specs.Trig.{sinCos}
 
--- num / den, for a den above 0
+-- num / den. Every fraction made here has a den above 0
 pub record SignedFraction : Type 0 where
   pub num : ℤ
   pub den : ℕ
@@ -33,15 +33,15 @@ series (suc n) k x = difference (term x k) (series n (suc (suc k)) x)
 abbrev pub terms : ℕ
 terms = 20
 
--- x − x ^ 3 / 3! + x ^ 5 / 5! − …
+-- x − x ^ 3 / 3! + x ^ 5 / 5! − … − x ^ 39 / 39!
 abbrev pub sineSeries : SignedFraction → SignedFraction
 sineSeries x = series terms 1 x
 
--- 1 − x ^ 2 / 2! + x ^ 4 / 4! − …
+-- 1 − x ^ 2 / 2! + x ^ 4 / 4! − … − x ^ 38 / 38!
 abbrev pub cosineSeries : SignedFraction → SignedFraction
 cosineSeries x = series terms 0 x
 
--- the number that a finite float is: `fin s m e` is ±(m * up e) / down e. 0 stands for a NaN and an infinity, of which nothing is said
+-- the number that a finite float is: `fin s m e` is ±(m * up e) / down e. A NaN and an infinity, which `Within` and `InRange` refuse, have 0
 abbrev pub exactValue : Float → SignedFraction
 exactValue nan = record { num = pos 0; den = 1 }
 exactValue (inf s) = record { num = pos 0; den = 1 }

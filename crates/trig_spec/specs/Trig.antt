@@ -1,4 +1,4 @@
--- Sine and cosine: the nine quarter points, where they are exact (docs/SCOPE.md, T8), and the formula elsewhere. Laws are in TrigLaws.antt.
+-- Sine and cosine: at the nine quarter points they are set to 0, 1 and −1 (docs/SCOPE.md, T8), elsewhere they are the formula's. Laws are in TrigLaws.antt.
 use Prim.Native.Nat.{ℕ, zero, suc}
 use mathlib.Core.Bool.{cond}
 use mathlib.Core.List.{List, [], _∷_}
@@ -12,12 +12,12 @@ use Rattle.trig_spec.specs.Formula.{formula}
 unfoldable pub halfPi : Float
 halfPi = ofBits binary64 0x3FF921FB54442D18
 
--- T8: quarter point number m: m × the float PI / 2, rounded once. m is exact as a float
+-- T8: quarter point m: m × the float PI / 2, rounded once, since m from −4 to 4 is a float without rounding
 unfoldable pub quarterPoint : ℤ → Float
 unfolding halfPi
 quarterPoint m = mul binary64 (ofInt binary64 m) halfPi
 
--- T8: (sine, cosine) there, for m mod 4 = 0, 1, 2, 3
+-- T8: (sine, cosine) at quarter point m, for m mod 4 = 0, 1, 2, 3
 unfoldable pub onAxis : ℕ → SinCos
 onAxis zero = record { sin = ofInt binary64 (pos 0); cos = ofInt binary64 (pos 1) }
 onAxis (suc zero) = record { sin = ofInt binary64 (pos 1); cos = ofInt binary64 (pos 0) }
@@ -25,16 +25,17 @@ onAxis (suc (suc zero)) = record { sin = ofInt binary64 (pos 0); cos = ofInt bin
 onAxis (suc (suc (suc n))) = record { sin = ofInt binary64 (negsuc 0); cos = ofInt binary64 (pos 0) }
 
 -- T8: m from −4 to 4
-abbrev pub quarters : List ℤ
-quarters = negℤ (pos 4) ∷ negℤ (pos 3) ∷ negℤ (pos 2) ∷ negℤ (pos 1) ∷ pos 0 ∷ pos 1 ∷ pos 2 ∷ pos 3 ∷ pos 4 ∷ []
+abbrev pub quarterNumbers : List ℤ
+quarterNumbers = negℤ (pos 4) ∷ negℤ (pos 3) ∷ negℤ (pos 2) ∷ negℤ (pos 1) ∷ pos 0 ∷ pos 1 ∷ pos 2 ∷ pos 3 ∷ pos 4 ∷ []
 
--- T8: where x equals quarter point number m of a list, as floats compare (−0.0 equals 0.0), what is there, and r where it equals none
+-- T8: what is set at the first m of a list whose quarter point equals x, as floats compare (so −0.0 is quarter point 0); r if there is none.
+-- The nine points differ, so their order does not matter
 unfoldable pub atQuarters : List ℤ → Float → SinCos → SinCos
 unfolding quarterPoint onAxis mod4
 atQuarters [] x r = r
 atQuarters (m ∷ ms) x r = cond (eq x (quarterPoint m)) (onAxis (mod4 m)) (atQuarters ms x r)
 
--- what stands for the Rust's f64::sin_cos
+-- what stands for the Rust's f64::sin_cos: T8 at the nine quarter points, else the formula
 unfoldable pub sinCos : Float → SinCos
 unfolding atQuarters formula eq
-sinCos x = atQuarters quarters x (formula x)
+sinCos x = atQuarters quarterNumbers x (formula x)

@@ -1,4 +1,4 @@
--- Laws of `sinCos` for callers, who keep it shut: at the quarter points, at every zero and at what is no number; that it is the formula's elsewhere, and
+-- Laws of `sinCos` for callers, who keep it shut: at the quarter points, at every zero and at what is not finite; that it is the formula's elsewhere, and
 -- that it takes the same number to the same pair. Assumes nothing.
 use mathlib.Core.Path.{_≡_, refl, sym, ap, _∙_}
 use mathlib.Core.Logic.{inl, inr}
@@ -15,18 +15,19 @@ use Rattle.ieee.specs.Same.{Same, isZero, plusZero, zeros-eq, T-true}
 use Rattle.ieee_whole.specs.Whole.{mod4}
 use Rattle.trig_spec.specs.declared.SinCos.{SinCos}
 use Rattle.trig_spec.specs.Formula.{formula}
-use Rattle.trig_spec.specs.Trig.{quarterPoint, onAxis, quarters, atQuarters, sinCos}
+use Rattle.trig_spec.specs.Trig.{quarterPoint, onAxis, quarterNumbers, atQuarters, sinCos}
 
 -- ---- at the nine points
 abbrev OnAxes : List ℤ → Type 0
 OnAxes [] = Unit
 OnAxes (m ∷ ms) = (sinCos (quarterPoint m) ≡ onAxis (mod4 m)) × OnAxes ms
 
-pub at-quarters : OnAxes quarters
+pub at-quarters : OnAxes quarterNumbers
 unfolding sinCos mul ofInt ofBits
 at-quarters = (refl, (refl, (refl, (refl, (refl, (refl, (refl, (refl, (refl, tt)))))))))
 
--- ---- at every other angle: x equals none of the points numbered so
+-- ---- at every other angle
+-- x equals no quarter point whose number is in the list
 abbrev pub Apart : Float → List ℤ → Type 0
 Apart x [] = Unit
 Apart x (m ∷ ms) = (eq x (quarterPoint m) ≡ false) × Apart x ms
@@ -36,12 +37,12 @@ unfolding atQuarters
 passed x [] ns r a = refl
 passed x (m ∷ ms) ns r a = ap (λ b. cond b (onAxis (mod4 m)) (atQuarters (ms ++ ns) x r)) (a .0) ∙ passed x ms ns r (a .1)
 
-pub elsewhere : (x : Float) → Apart x quarters → sinCos x ≡ formula x
+pub elsewhere : (x : Float) → Apart x quarterNumbers → sinCos x ≡ formula x
 unfolding sinCos
-elsewhere x a = passed x quarters [] (formula x) a
+elsewhere x a = passed x quarterNumbers [] (formula x) a
 
 -- ---- x = ±a / b with 4 a ≤ 3 b is none of them but 0
--- y is 1 or more in size
+-- y is 1 or more in size, or not finite
 abbrev far : Float → Bool
 far nan = true
 far (inf t) = true
@@ -90,7 +91,7 @@ at-zero (fin s zero e) z =
     none u d = omega arith
 at-zero (fin s (suc m) e) z = absurd z
 
--- ---- what is no number
+-- ---- what is not finite
 pub at-nan : sinCos nan ≡ record { sin = nan; cos = nan }
 unfolding sinCos
 at-nan = refl

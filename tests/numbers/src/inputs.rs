@@ -31,7 +31,8 @@ pub const ROOT: [Group; 8] = [
     drawn("squares of midpoints", midpoints),
 ];
 
-pub const SINE: [Group; 7] = [
+pub const SINE: [Group; 8] = [
+    whole("quarter points", quarter_points_and_neighbours),
     drawn("random bits", random_bits),
     drawn("within 1,008", |rng| vec![2016.0 * rng.unit() - 1008.0]),
     drawn("within a turn", |rng| vec![6.4 * (2.0 * rng.unit() - 1.0)]),
@@ -111,6 +112,17 @@ fn midpoints(rng: &mut Rng) -> Vec<f64> {
 fn small(rng: &mut Rng) -> Vec<f64> {
     let x = f64::from_bits((rng.bits() >> rng.between(2, 63)) & 0x3FFF_FFFF_FFFF_FFFF);
     vec![x, -x]
+}
+
+/// The nine quarter points: m × PI/2, rounded once, for m from −4 to 4.
+pub fn quarter_points() -> [f64; 9] {
+    std::array::from_fn(|i| (i as f64 - 4.0) * FRAC_PI_2)
+}
+
+/// The quarter points, zero with both signs, and the three floats on both sides of each: those next to zero are subnormal.
+fn quarter_points_and_neighbours(_: &mut Rng) -> Vec<f64> {
+    let all = quarter_points().into_iter().flat_map(|x| around(x, 3));
+    all.chain([-0.0]).collect()
 }
 
 fn quarters(rng: &mut Rng) -> Vec<f64> {

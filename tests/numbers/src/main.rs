@@ -10,6 +10,7 @@ mod sine;
 
 use inputs::Group;
 use rng::Rng;
+use std::f64::consts::TAU;
 use std::hint::black_box;
 use std::num::FpCategory;
 use std::time::Instant;
@@ -73,8 +74,11 @@ fn main() {
         }
         !root_differs && !case_differs
     };
-    let mut ties = 0u64;
+    let quarter_points = inputs::quarter_points();
+    let (mut ties, mut at_quarters, mut zeros) = (0u64, 0u64, 0u64);
     let pair = |x: f64| {
+        at_quarters += quarter_points.contains(&x) as u64;
+        zeros += (x == 0.0) as u64;
         ties += ((x * inputs::H).fract().abs() == 0.5) as u64;
         let (sin, cos) = sine::sin_cos(x);
         same(sizturga_sin(x), sin) && same(sizturga_cos(x), cos)
@@ -82,6 +86,7 @@ fn main() {
     let mut rng = Rng::new(seed);
     let mismatches =
         compare("sqrt", &inputs::ROOT, n, &mut rng, root) + compare("sin_cos", &inputs::SINE, n, &mut rng, pair);
+    println!("sin_cos\tequal to a quarter point\t{at_quarters} of the inputs, {zeros} of them zeros");
     println!("sin_cos\texact ties of q\t{ties} of the inputs");
     times(&mut rng);
     for (name, [inputs, roots, cases]) in CASES.iter().zip(by_case) {
@@ -127,6 +132,7 @@ fn times(rng: &mut Rng) {
     // So many that the processor cannot foretell which exponent is even.
     let many = of_field(65_536, 1, 2046);
     let angles: Vec<f64> = (0..4096).map(|_| 2000.0 * rng.unit() - 1000.0).collect();
+    let on_cylinders: Vec<f64> = [32, 100, 1024].into_iter().flat_map(angles_of_a_cylinder).collect();
     let roots: [(&str, Call); 2] = [("sqrt, ours", sizturga_sqrt), ("sqrt, hardware", hardware_sqrt)];
     let sines: [(&str, Call); 2] = [("sin_cos, ours", sizturga_sin), ("sin_cos, the text in Rust", text_sin)];
     by_turns(roots, "", &normal, round::<false>);
@@ -136,6 +142,12 @@ fn times(rng: &mut Rng) {
     by_turns(roots, ", subnormal", &subnormal, round::<false>);
     by_turns(roots, ", one after another", &normal, round::<true>);
     by_turns(sines, "", &angles, round::<false>);
+    by_turns(sines, ", angles of cylinders", &on_cylinders, round::<false>);
+}
+
+/// The angles of a cylinder's points. Of 32, 100 or 1,024 of them four are quarter points.
+fn angles_of_a_cylinder(segments: usize) -> impl Iterator<Item = f64> {
+    (0..segments).map(move |i| TAU * i as f64 / segments as f64)
 }
 
 /// Prints nanoseconds a call of two functions: the least of the rounds, in which the two take turns.

@@ -42,7 +42,7 @@ fn broken(list: &[f64], size: usize, most: usize) -> bool {
 }
 
 /// The start and stop angle of a rotated outline, and the angles of points and boxes taken as cylindrical.
-fn shape_angles(case: &Case) -> impl Iterator<Item = f64> {
+pub fn shape_angles(case: &Case) -> impl Iterator<Item = f64> {
     let own = if case.own == 0 { case.default == 1 } else { case.own == 2 };
     let n = &case.numbers;
     let every = |size: usize, first: usize| case.list.chunks_exact(size).map(move |c| c[first]);
@@ -59,7 +59,7 @@ fn shape_angles(case: &Case) -> impl Iterator<Item = f64> {
 }
 
 /// The operations' angles in radians.
-fn op_angles(case: &Case) -> impl Iterator<Item = f64> + '_ {
+pub fn op_angles(case: &Case) -> impl Iterator<Item = f64> + '_ {
     let radians = |a: f64| if case.degrees == 1 { a.to_radians() } else { a };
     case.ops.iter().filter_map(move |op| match op.kind {
         2 => Some(radians(op.numbers[3])),

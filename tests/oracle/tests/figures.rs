@@ -1,5 +1,7 @@
 //! The figures of docs/SCOPE.md, "Figures", checked on the Rust. (P) marks those that are proved.
+use csx::Vec3;
 use csx::added::triangulate_counted;
+use csx::sine::{formula, sin_cos};
 use csx::tessellate::shown::{arc_segments, clean_polygon};
 use csx::tessellate::{TessellationOptions, TriMesh};
 use oracle::calls::Meshes;
@@ -7,7 +9,7 @@ use oracle::case::*;
 use oracle::closed::closed;
 use oracle::reference::untransformed;
 use oracle::refusals::Lent;
-use std::f64::consts::{PI, TAU};
+use std::f64::consts::{FRAC_PI_2, PI, TAU};
 
 /// A shape of these numbers, with slices lent for any mesh of these tests.
 fn solid(shape: u8, numbers: &[f64], segments: u32, sphere_rings: u32) -> Case {
@@ -97,6 +99,43 @@ fn roots() {
     assert_eq!(4f64.sqrt(), 2.0);
     assert_eq!((-0.0f64).sqrt().to_bits(), (-0.0f64).to_bits());
     assert_eq!(tiniest.sqrt(), 2f64.powi(-537));
+}
+
+/// The sine and cosine of the nine quarter points; all else keeps the formula's, a quarter beyond a turn too.
+#[test]
+fn quarter_points() {
+    let three = 3.0 * FRAC_PI_2;
+    let zeros = [-TAU, -0.0, 0.0, TAU].map(|x| (x, 0.0, 1.0));
+    let ones = [-three, FRAC_PI_2].map(|x| (x, 1.0, 0.0));
+    let twos = [-PI, PI].map(|x| (x, 0.0, -1.0));
+    let threes = [-FRAC_PI_2, three].map(|x| (x, -1.0, 0.0));
+    for (x, sine, cosine) in [&zeros[..], &ones, &twos, &threes].concat() {
+        assert_eq!(bits(sin_cos(x)), bits((sine, cosine)), "{x:?}");
+        for near in [x.next_down(), x.next_up()] {
+            assert_eq!(bits(sin_cos(near)), bits(formula(near)), "{near:?}");
+        }
+    }
+    for x in [-5.0 * FRAC_PI_2, 5.0 * FRAC_PI_2, 1.0, 1000.0] {
+        assert_eq!(bits(sin_cos(x)), bits(formula(x)), "{x:?}");
+    }
+}
+
+fn bits((sine, cosine): (f64, f64)) -> (u64, u64) {
+    (sine.to_bits(), cosine.to_bits())
+}
+
+/// A round clamp lies on the axes, to the last bit.
+#[test]
+fn quarter_points_of_a_cylinder() {
+    for segments in [4, 8, 12, 32] {
+        let vertices = mesh(&solid(CYLINDER, &[0.0, 0.0, 0.0, 0.0, 0.0, 1.0, 1.0], segments, 16)).vertices;
+        for (x, y) in [(1.0, 0.0), (0.0, 1.0), (-1.0, 0.0), (0.0, -1.0)] {
+            for z in [0.0, 1.0] {
+                let there = |v: &Vec3| v.0.map(f64::to_bits) == [x, y, z].map(f64::to_bits);
+                assert!(vertices.iter().any(there), "{segments} segments: no vertex ({x}, {y}, {z})");
+            }
+        }
+    }
 }
 
 /// The first is (P).

@@ -1,5 +1,8 @@
 //! Sine and cosine as docs/SCOPE.md, "Sine and cosine", defines them. Each operation rounds once.
 
+/// The float PI/2.
+const FRAC_PI_2: f64 = f64::from_bits(0x3FF921FB54442D18);
+
 const H: f64 = f64::from_bits(0x3FE45F306DC9C883);
 const A: f64 = f64::from_bits(0x3FF921FB54400000);
 const B: f64 = f64::from_bits(0x3DD0B4611A600000);
@@ -33,8 +36,24 @@ fn horner(z: f64, coefficients: &[f64; 9]) -> f64 {
     sum
 }
 
-/// (sine, cosine); a pair of NaNs where x is not finite.
+/// (sine, cosine): exact at the nine quarter points, else the formula's.
 pub fn sin_cos(x: f64) -> (f64, f64) {
+    for m in -4i32..=4 {
+        // The product is rounded once. Floats are compared, so that −0.0 is a quarter point too.
+        if x == m as f64 * FRAC_PI_2 {
+            return match m.rem_euclid(4) {
+                0 => (0.0, 1.0),
+                1 => (1.0, 0.0),
+                2 => (0.0, -1.0),
+                _ => (-1.0, 0.0),
+            };
+        }
+    }
+    formula(x)
+}
+
+/// (sine, cosine) without the quarter points; a pair of NaNs where x is not finite.
+pub fn formula(x: f64) -> (f64, f64) {
     if !x.is_finite() {
         return (f64::NAN, f64::NAN);
     }

@@ -1,9 +1,12 @@
-//! `sample SEED > cases`: a small case file with every shape, call and refusal, and the edges of the refusals on both sides.
+//! `sample SEED > cases`: a small case file with every shape, call and refusal, the edges of the refusals on both sides, and
+//! angles at quarter points.
 //! It is a choice among the runs that `generate` makes: a run is kept where it shows what was not yet shown often enough.
 use oracle::calls::Meshes;
 use oracle::case::*;
 use oracle::generate::runs;
+use oracle::refusals::{op_angles, shape_angles};
 use std::collections::HashMap;
+use std::f64::consts::FRAC_PI_2;
 use std::io::{self, BufWriter, Write};
 
 /// Runs looked at, and the most bytes of a run and its results.
@@ -78,5 +81,44 @@ fn shows(case: &Case, result: &[u8]) -> Vec<String> {
     edge(!case.triangle_numbers.is_multiple_of(3), "broken triangle place".into());
     let need = 2 * (case.vertex_floats / 3);
     edge(case.what == TESSELLATE && need > 0 && case.work_numbers + 1 == need, "work one short".into());
+    if full && case.what == TESSELLATE {
+        out.extend(quarter_points(case));
+    }
     out
+}
+
+/// Where a mesh with triangles shows the sine and cosine of quarter points: its rotations, its angles, its segments.
+fn quarter_points(case: &Case) -> Vec<String> {
+    let angles: Vec<f64> = shape_angles(case).collect();
+    let drawn = match case.shape {
+        BOX | MULTI_BOX => "box",
+        ROT_POLY => "outline",
+        _ => "point",
+    };
+    let rotated = op_angles(case).filter_map(place).map(|place| format!("rotated {place}, degrees {}", case.degrees));
+    let mut out: Vec<String> = rotated.collect();
+    out.extend(angles.iter().filter_map(|&angle| place(angle)).map(|place| format!("{drawn} {place}")));
+    if angles.iter().any(|&angle| angle != 0.0 && is_quarter_point(angle)) {
+        out.push(format!("shape {} at quarter points", case.shape));
+    }
+    let round = matches!(case.shape, SPHERE | SPHERICAL_SHELL | CYLINDER | CYLINDRICAL_SHELL | WIRE);
+    if (round || !angles.is_empty()) && matches!(case.segments, 4 | 8) {
+        out.push(format!("shape {} of {} segments", case.shape, case.segments));
+    }
+    out
+}
+
+/// Where an angle is a quarter point, zeros told apart by their signs, or next to one.
+fn place(angle: f64) -> Option<String> {
+    if is_quarter_point(angle) {
+        Some(format!("at {angle:?}"))
+    } else if is_quarter_point(angle.next_up()) || is_quarter_point(angle.next_down()) {
+        Some("next to a quarter point".into())
+    } else {
+        None
+    }
+}
+
+fn is_quarter_point(angle: f64) -> bool {
+    (-4..=4).any(|m| angle == m as f64 * FRAC_PI_2)
 }

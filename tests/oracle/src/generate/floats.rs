@@ -99,12 +99,16 @@ pub fn spoil(rng: &mut Rng, list: &mut [f64]) {
     }
 }
 
+/// A quarter point: m × PI/2, rounded once, for m from −4 to 4; a zero has either sign.
+pub fn quarter_point(rng: &mut Rng) -> f64 {
+    sign(rng) * (rng.between(0, 4) as f64 * FRAC_PI_2)
+}
+
 /// An angle, within ±1,000 or just beyond.
 pub fn angle(rng: &mut Rng) -> f64 {
-    let quarter = FRAC_PI_2 * (rng.between(0, 8) as f64 - 4.0);
+    let quarter = quarter_point(rng);
     match rng.below(12) {
-        0 => rng.pick(&[0.0, -0.0]),
-        1..=2 => quarter,
+        0..=2 => quarter,
         3 => near(rng, quarter),
         4 => 2000.0 * rng.unit() - 1000.0,
         5 => edge(rng),
@@ -125,21 +129,23 @@ fn edge(rng: &mut Rng) -> f64 {
     sign(rng) * x
 }
 
-/// An angle in degrees: quarters, and the edge that 1,000 radians is.
+/// An angle in degrees: quarters, also beyond a turn, and the edge that 1,000 radians is.
 pub fn degrees(rng: &mut Rng) -> f64 {
     let edge = sign(rng) * 1000f64.to_degrees();
-    match rng.below(6) {
+    let quarter = sign(rng) * 90.0 * rng.between(0, 6) as f64;
+    match rng.below(8) {
         0 => near(rng, edge),
-        1 => 90.0 * (rng.between(0, 8) as f64 - 4.0),
-        2 => sign(rng) * 60_000.0 * rng.unit(),
+        1..=2 => quarter,
+        3 => near(rng, quarter),
+        4 => sign(rng) * 60_000.0 * rng.unit(),
         _ => 720.0 * rng.unit() - 360.0,
     }
 }
 
-/// Two angles: any, and often a full turn apart or nearly so.
+/// Two angles: any, often a full turn apart or nearly so, or both quarter points.
 pub fn angles(rng: &mut Rng) -> (f64, f64) {
     let start = angle(rng);
-    let span = match rng.below(10) {
+    let span = match rng.below(12) {
         0..=1 => TAU,
         2 => near(rng, TAU),
         3 => near(rng, TAU - 1e-12),
@@ -147,6 +153,7 @@ pub fn angles(rng: &mut Rng) -> (f64, f64) {
         5 => near(rng, 0.0),
         6 => PI,
         7 => return (start, angle(rng)),
+        8..=9 => return (quarter_point(rng), quarter_point(rng)),
         _ => TAU * rng.unit(),
     };
     if rng.one_in(3) { (start, start - span) } else { (start, start + span) }

@@ -157,19 +157,27 @@ fn angles(rng: &mut Rng, case: &mut Case) {
         SPHERE | SPHERICAL_SHELL => case.numbers[1] = floats::angle(rng),
         MULTI_BOX => {
             for c in case.list.chunks_exact_mut(6) {
-                (c[1], c[4]) = if rng.one_in(20) { floats::angles(rng) } else { (rng.unit(), 7.0 * rng.unit()) };
+                (c[1], c[4]) = match rng.below(20) {
+                    0 => floats::angles(rng),
+                    1..=4 => (floats::quarter_point(rng), floats::quarter_point(rng)),
+                    _ => (rng.unit(), 7.0 * rng.unit()),
+                };
             }
         }
         WIRE => {
             for c in case.list.chunks_exact_mut(3) {
-                c[1] = if rng.one_in(20) { floats::angle(rng) } else { 2000.0 * rng.unit() - 1000.0 };
+                c[1] = match rng.below(20) {
+                    0 => floats::angle(rng),
+                    1..=4 => floats::quarter_point(rng),
+                    _ => 2000.0 * rng.unit() - 1000.0,
+                };
             }
         }
         _ => (),
     }
 }
 
-/// Segments and rings: mostly few, sometimes at their edge, as many as the mesh stays small.
+/// Segments and rings: mostly few, often multiples of 4, sometimes at their edge, as many as the mesh stays small.
 fn options(rng: &mut Rng, case: &mut Case) {
     let (round, ringed) = match case.shape {
         SPHERE | SPHERICAL_SHELL => (1, true),
@@ -179,10 +187,15 @@ fn options(rng: &mut Rng, case: &mut Case) {
         _ => (1, false),
     };
     let room = 4096 / round.max(1);
-    let few = |rng: &mut Rng| if rng.one_in(6) { rng.between(0, 33) } else { rng.between(0, 9) };
+    let few = |rng: &mut Rng| match rng.below(12) {
+        0..=1 => rng.between(0, 33),
+        2..=4 => 4 * rng.between(1, 4),
+        _ => rng.between(0, 9),
+    };
     let (mut segments, mut rings) = (few(rng), few(rng));
     if rng.one_in(12) {
-        segments = rng.pick(&[1024, 1024, 1025, 1023, 13, 26, 52, 104]);
+        // Of 44, 52, 104 and 220 segments a quarter of the turn misses its quarter point by a last bit.
+        segments = rng.pick(&[1024, 1024, 1025, 1023, 13, 26, 44, 52, 100, 104, 220]);
     }
     if rng.one_in(30) {
         rings = rng.pick(&[1024, 1025]);
