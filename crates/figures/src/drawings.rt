@@ -5,6 +5,7 @@ use crate::written;
 use figures_lines::put_border;
 use figures_lines::put_first;
 use figures_lines::put_measures;
+use figures_lines::put_quarters;
 use figures_text::put_counts;
 use figures_titles::put_box;
 use figures_titles::put_cylinder;
@@ -94,15 +95,19 @@ pub(crate) fn spheres() {
     sphere(at(1.0, 1.0, 1.0), b"2^-1074", least, 32, 16);
 }
 
-fn cylinder(radius: f64, v: &mut [f64], t: &mut [u32]) {
-    let shape = Shape::Cylinder {
+// A cylinder along z from the origin, of length 1.
+fn upright(radius: f64) -> Shape {
+    Shape::Cylinder {
         start: at(0.0, 0.0, 0.0),
         stop: at(0.0, 0.0, 1.0),
         radius: radius,
-    };
+    }
+}
+
+fn cylinder(radius: f64, v: &mut [f64], t: &mut [u32]) {
     let mut line = [0u8; 160];
-    let n = put_cylinder(&mut line, 0, radius);
-    let d = drawn::draw(shape, 3, 2, v, t);
+    let n = put_cylinder(&mut line, 0, radius, 3);
+    let d = drawn::draw(upright(radius), 3, 2, v, t);
     closed_or_open(&mut line, n, d, t);
 }
 
@@ -136,4 +141,26 @@ pub(crate) fn cylinders() {
     shell(0.0, &mut v, &mut t);
     shell(3.0, &mut v, &mut t);
     wide_cylinder(&v, &t);
+}
+
+// The cylinder of radius 1, and which of the four points of the unit circle on the axes x and y are vertices of it. There is room for 44 segments: two
+// rings of vertices and two centers.
+fn quarters(segments: usize) {
+    let mut line = [0u8; 160];
+    let mut v = [0.0; 270];
+    let mut t = [0u32; 528];
+    let mut n = put_cylinder(&mut line, 0, 1.0, segments);
+    let d = drawn::draw(upright(1.0), segments, 2, &mut v, &mut t);
+    let m = d.mesh;
+    n = put_quarters(&mut line, n, &v, m.vertices);
+    written::write(&line, n);
+}
+
+// With 44 segments TAU * 11 / 44 and TAU * 22 / 44 are not PI / 2 and PI but floats beside them, and the vertices there lie beside their axes.
+pub(crate) fn unit_cylinders() {
+    quarters(4);
+    quarters(8);
+    quarters(12);
+    quarters(32);
+    quarters(44);
 }

@@ -12,5 +12,6 @@ fn main() {
     arcs_and_roots::all();
     drawings::spheres();
     drawings::cylinders();
+    drawings::unit_cylinders();
     extremes::all();
 }

@@ -1,1 +1,3 @@
 pub mod Figures
+pub mod Quarters
+pub mod QuartersExamples

@@ -1,3 +1,5 @@
--- What the contracts of `figures_same` cite, and a law of it.
+-- What the contracts of `figures_same` cite, and laws of it.
 pub mod Begins
 pub mod BeginsLaws
+pub mod Vertices
+pub mod VerticesLaws

@@ -20,9 +20,10 @@ finenessOf segments rings = ascii ", " ++ (decimalOf segments ++ (ascii " segmen
 abbrev pub sphereOf : Vec3 → List ℕ → ℕ → ℕ → List ℕ
 sphereOf center name segments rings = ascii "sphere at " ++ (pointOf center ++ (ascii ", r = " ++ (name ++ finenessOf segments rings)))
 
--- a cylinder of 3 segments
-abbrev pub cylinderOf : Float → List ℕ
-cylinderOf radius = ascii "cylinder (0,0,0) to (0,0,1), r = " ++ (floatBitsOf (toBits binary64 radius) ++ ascii ", 3 segments: ")
+-- a cylinder along z from the origin, of length 1
+abbrev pub cylinderOf : Float → ℕ → List ℕ
+cylinderOf radius segments =
+    ascii "cylinder (0,0,0) to (0,0,1), r = " ++ (floatBitsOf (toBits binary64 radius) ++ (ascii ", " ++ (decimalOf segments ++ ascii " segments: ")))
 
 -- a cylindrical shell of 3 segments
 abbrev pub shellOf : Float → List ℕ

@@ -46,13 +46,15 @@ pub fn put_sphere(
     put_fineness(out, to, segments, rings)
 }
 
-// A cylinder of 3 segments.
-pub fn put_cylinder(out: &mut [u8], at: usize, radius: f64) -> usize
-    ensures { λ r. ⌜ Puts (cylinderOf radius) (line (now (out .entry)) at) (line (now (out .exit)) r) ⌝ }
+// A cylinder along z from the origin, of length 1.
+pub fn put_cylinder(out: &mut [u8], at: usize, radius: f64, segments: usize) -> usize
+    ensures { λ r. ⌜ Puts (cylinderOf radius segments) (line (now (out .entry)) at) (line (now (out .exit)) r) ⌝ }
 {
     let mut to = put(out, at, b"cylinder (0,0,0) to (0,0,1), r = ");
     to = put_float(out, to, radius);
-    put(out, to, b", 3 segments: ")
+    to = put(out, to, b", ");
+    let after_count = put_count(out, to, segments);
+    put(out, after_count, b" segments: ")
 }
 
 // A cylindrical shell of 3 segments.

@@ -17,8 +17,8 @@ use Rattle.ieee.specs.Same.{add-zero-same, round-zero-at}
 use Rattle.ieee.specs.Unique.{zero-exp, round-self}
 use Rattle.ieee_whole.specs.Whole.{halfUp, nearestWhole}
 use Rattle.ieee_whole.specs.WholeLaws.{half-up-nearest}
-use Rattle.trig_spec.specs.Formula.{factorial, constH, constA, constB, constC, reduced, overFactorial, horner, sineCoefficients, cosineCoefficients, sineSum, cosineSum}
-use Rattle.trig_spec.specs.Formula.{quadrant, fromReduced, fromWhole, formula}
+use Rattle.trig_spec.specs.Formula.{factorial, constH, constA, constB, constC, reduced, overFactorial, horner, quadrant, fromReduced, fromWhole, formula}
+use Rattle.trig_spec.specs.Formula.{sineCoefficients, cosineCoefficients, sineSum, cosineSum}
 use Rattle.trig_law.proofs.Rounded.{scale, slack, round-value}
 use Rattle.trig_law.proofs.Horner.{hornerIn, coefficients}
 
