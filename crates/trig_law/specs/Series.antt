@@ -11,7 +11,7 @@ use Rattle.trig_spec.specs.declared.SinCos.{SinCos}
 use Rattle.trig_spec.specs.Formula.{factorial}
 use Rattle.trig_spec.specs.Trig.{sinCos}
 
--- num / den. Every fraction made here has a den above 0
+-- num / den. Every fraction made here has a den above 0 (of a series: proofs/Parts.antt `series-pos`)
 pub record SignedFraction : Type 0 where
   pub num : ℤ
   pub den : ℕ
