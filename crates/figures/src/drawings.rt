@@ -5,7 +5,7 @@ use crate::written;
 use figures_lines::put_border;
 use figures_lines::put_first;
 use figures_lines::put_measures;
-use figures_lines::put_quarters;
+use figures_quarters::put_quarters;
 use figures_text::put_counts;
 use figures_titles::put_box;
 use figures_titles::put_cylinder;

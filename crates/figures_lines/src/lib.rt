@@ -2,11 +2,9 @@
 // function answers the place after its text.
 mod arcs_and_roots;
 mod meshes;
-mod quarters;
 
 pub use arcs_and_roots::put_arc;
 pub use arcs_and_roots::put_root;
 pub use meshes::put_border;
 pub use meshes::put_first;
 pub use meshes::put_measures;
-pub use quarters::put_quarters;

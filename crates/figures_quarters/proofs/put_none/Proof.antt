@@ -1,8 +1,8 @@
--- `figures_lines::quarters::put_none` meets its contract. Assumes nothing.
+-- `figures_quarters::put_none` meets its contract. Assumes nothing.
 use borrow.Author.Needs.{needs}
-use Rattle.figures_lines.proofs.Cases.{some-text, none-text}
-use Rattle.figures_lines.proofs.quarters.put_none.Statement.{statement}
-use Rattle.figures_lines.proofs.quarters.put_none.Tie as tie
+use Rattle.figures_quarters.proofs.Texts.{some-text, none-text}
+use Rattle.figures_quarters.proofs.put_none.Statement.{statement}
+use Rattle.figures_quarters.proofs.put_none.Tie as tie
 
 is-vertex-requires : tie.Need-is-vertex-requires
 is-vertex-requires c κs = search needs

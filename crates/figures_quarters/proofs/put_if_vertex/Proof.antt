@@ -1,9 +1,9 @@
--- `figures_lines::quarters::put_if_vertex` meets its contract. Assumes nothing.
+-- `figures_quarters::put_if_vertex` meets its contract. Assumes nothing.
 use borrow.Author.Needs.{needs}
 use Rattle.slice_text.specs.LineLaws.{then}
-use Rattle.figures_lines.proofs.Cases.{vertex-text, no-vertex-text}
-use Rattle.figures_lines.proofs.quarters.put_if_vertex.Statement.{statement}
-use Rattle.figures_lines.proofs.quarters.put_if_vertex.Tie as tie
+use Rattle.figures_quarters.proofs.Texts.{vertex-text, no-vertex-text}
+use Rattle.figures_quarters.proofs.put_if_vertex.Statement.{statement}
+use Rattle.figures_quarters.proofs.put_if_vertex.Tie as tie
 
 is-vertex-requires : tie.Need-is-vertex-requires
 is-vertex-requires c κs = search needs

@@ -1,9 +1,9 @@
--- `figures_lines::quarters::put_quarters` meets its contract. Assumes nothing.
+-- `figures_quarters::put_quarters` meets its contract. Assumes nothing.
 use borrow.Author.Needs.{needs}
 use denote.Ref.{now}
-use Rattle.figures_lines.proofs.Cases.{quarters-text}
-use Rattle.figures_lines.proofs.quarters.put_quarters.Statement.{statement}
-use Rattle.figures_lines.proofs.quarters.put_quarters.Tie as tie
+use Rattle.figures_quarters.proofs.Texts.{quarters-text}
+use Rattle.figures_quarters.proofs.put_quarters.Statement.{statement}
+use Rattle.figures_quarters.proofs.put_quarters.Tie as tie
 
 slice-aggregate-put : tie.Need-slice-aggregate-put
 slice-aggregate-put c = search needs

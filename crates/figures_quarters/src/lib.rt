@@ -1,6 +1,7 @@
-// Which of the four points of the unit circle on the axes x and y are vertices of a mesh: of the first count vertices of v, three floats each.
+// Text of the program `figures`: which of the four points of the unit circle on the axes x and y are vertices of a mesh, of the first count vertices of v,
+// three floats each. It is put into a lent slice of bytes from place at on, as far as it fits. A function that puts answers the place after its text.
 ghost use mathlib.Core.Path.{_≡_};
-ghost use Rattle.figures_lines.specs.Quarters.{flat, ifVertex, noneOf, quartersOf};
+ghost use Rattle.figures_quarters.specs.Quarters.{flat, ifVertex, noneOf, quartersOf};
 ghost use Rattle.figures_same.specs.Vertices.{hasVertex};
 ghost use Rattle.slice_text.specs.Line.{line, Puts};
 use figures_points::put_point;

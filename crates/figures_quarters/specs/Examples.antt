@@ -9,7 +9,7 @@ use Rattle.slice_text.specs.Ascii.{ascii}
 use Rattle.slice_text.specs.Numbers.{decimalWithin}
 use Rattle.figures_text.specs.Floats.{isWhole, magnitudeOf, floatBitsOf}
 use Rattle.figures_same.specs.Vertices.{hasVertex}
-use Rattle.figures_lines.specs.Quarters.{zero, one, minusOne, ifVertex, noneOf, quartersOf}
+use Rattle.figures_quarters.specs.Quarters.{zero, one, minusOne, ifVertex, noneOf, quartersOf}
 
 no-mesh : quartersOf [] 0 ≡ ascii "vertices at none\n"
 unfolding ifVertex noneOf hasVertex

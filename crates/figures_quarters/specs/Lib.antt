@@ -1,0 +1,3 @@
+-- The text on the points of the unit circle on the axes, and worked examples.
+pub mod Quarters
+pub mod Examples
