@@ -23,8 +23,8 @@ use Rattle.trig.proofs.Laws.{mul-finite, composed}
 use Rattle.trig.proofs.Small.{small, In, and-false, in-or-large}
 
 -- the whole number that the code finds for an angle
-abbrev numberOf : Float → ℤ
-numberOf x = nearestWhole (mul binary64 x constH)
+abbrev wholeNumberOf : Float → ℤ
+wholeNumberOf x = nearestWhole (mul binary64 x constH)
 
 test-is : (x : Float) (m : ℤ) → isQuarterPoint x (ofInt binary64 m) ≡ (small m && eq x (quarterPoint m))
 unfolding isQuarterPoint quarterPoint
@@ -33,7 +33,7 @@ test-is x m = refl
 -- ---- each of the nine has its own number, which passes the test
 abbrev Numbered : List ℤ → Type 0
 Numbered [] = Unit
-Numbered (m ∷ ms) = (numberOf (quarterPoint m) ≡ m) × (small m ≡ true) × Numbered ms
+Numbered (m ∷ ms) = (wholeNumberOf (quarterPoint m) ≡ m) × (small m ≡ true) × Numbered ms
 
 all-numbered : Numbered quarterNumbers
 unfolding quarterPoint nearestWhole constH mul ofInt ofBits le neg
@@ -41,20 +41,20 @@ all-numbered =
     (refl, refl, (refl, refl, (refl, refl, (refl, refl, (refl, refl, (refl, refl, (refl, refl, (refl, refl, (refl, refl, tt)))))))))
 
 -- and so has an angle that equals it
-number-at : (x : Float) (m : ℤ) → T (fits binary64 x) → numberOf (quarterPoint m) ≡ m → eq x (quarterPoint m) ≡ true → numberOf x ≡ m
+number-at : (x : Float) (m : ℤ) → T (fits binary64 x) → wholeNumberOf (quarterPoint m) ≡ m → eq x (quarterPoint m) ≡ true → wholeNumberOf x ≡ m
 number-at x m t own h = go (eq→same binary64 x (quarterPoint m) t (unfold quarterPoint in mul-fits binary64 _ _) (true-T (eq x (quarterPoint m)) h))
   where
-    at-zero : (y : Float) → T (isZero y) → numberOf y ≡ pos 0
+    at-zero : (y : Float) → T (isZero y) → wholeNumberOf y ≡ pos 0
     at-zero y z = nearest-zero (mul binary64 y constH) (unfold constH ofBits in mul-zero-l binary64 y constH z tt)
 
-    go : Same x (quarterPoint m) → numberOf x ≡ m
-    go (inl p) = ap numberOf p ∙ own
+    go : Same x (quarterPoint m) → wholeNumberOf x ≡ m
+    go (inl p) = ap wholeNumberOf p ∙ own
     go (inr z) = at-zero x (z .0) ∙ sym (at-zero (quarterPoint m) (z .1)) ∙ own
 
 -- ---- one test for a list of points
 module _ (x : Float) (t : T (fits binary64 x)) (r : SinCos) where
   q : ℤ
-  q = numberOf x
+  q = wholeNumberOf x
 
   passes : Bool
   passes = small q && eq x (quarterPoint q)
@@ -62,7 +62,7 @@ module _ (x : Float) (t : T (fits binary64 x)) (r : SinCos) where
   found : ℤ → SinCos
   found k = cond (small k && eq x (quarterPoint k)) (onAxis (mod4 k)) r
 
-  hit : (m : ℤ) → numberOf (quarterPoint m) ≡ m → small m ≡ true → eq x (quarterPoint m) ≡ true → onAxis (mod4 m) ≡ found q
+  hit : (m : ℤ) → wholeNumberOf (quarterPoint m) ≡ m → small m ≡ true → eq x (quarterPoint m) ≡ true → onAxis (mod4 m) ≡ found q
   unfolding q found
   hit m own s e = subst (λ k. onAxis (mod4 m) ≡ found k) (sym (number-at x m t own e)) (sym (λ i. cond (s i && e i) (onAxis (mod4 m)) r))
 
@@ -83,7 +83,7 @@ module _ (x : Float) (t : T (fits binary64 x)) (r : SinCos) where
       go true h l = h refl
       go false h l = l refl
 
-  pub of-number : atQuarters quarterNumbers x r ≡ cond (isQuarterPoint x (ofInt binary64 (numberOf x))) (onAxis (mod4 (numberOf x))) r
+  pub of-number : atQuarters quarterNumbers x r ≡ cond (isQuarterPoint x (ofInt binary64 (wholeNumberOf x))) (onAxis (mod4 (wholeNumberOf x))) r
   unfolding q passes found
   of-number = one-test quarterNumbers all-numbered (large (in-or-large q)) ∙ sym (ap (λ b. cond b (onAxis (mod4 q)) r) (test-is x q))
     where
