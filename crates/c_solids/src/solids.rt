@@ -7,7 +7,7 @@ use shape::OwnSystem;
 use shape::TessellationOptions;
 use transform::TransformOp;
 
-// The mesh of a shape in the lent slices, and its counts. The shape is that of `shape_fields`, and `system` 1 is the cylindrical one.
+// The mesh of a shape in the lent slices, its counts and its box. The shape is that of `shape_fields`, and `system` 1 is the cylindrical one.
 #[no_mangle]
 pub extern "C" fn sizturga_bench_solid(
     kind: u8,
@@ -23,11 +23,12 @@ pub extern "C" fn sizturga_bench_solid(
     work: &mut [u32],
     vertex_count: &mut usize,
     triangle_count: &mut usize,
+    bounds: &mut [f64; 6],
 ) -> u32
     ensures { λ r. ⌜ Tells
         (solidIn (systemOf system) (shapeOf kind «norm_dir» «rot_axis_dir» (now (numbers .entry))) (now (list .entry)) segments rings
         (lent (now (vertices .entry)) (now (triangles .entry)) (now (work .entry))))
-        r (now («vertex_count» .exit)) (now («triangle_count» .exit)) (now (vertices .exit)) (now (triangles .exit)) (now (work .exit)) ⌝ }
+        r (now («vertex_count» .exit)) (now («triangle_count» .exit)) (now (bounds .exit)) (now (vertices .exit)) (now (triangles .exit)) (now (work .exit)) ⌝ }
 {
     let none = TransformOp::Scale(1.0);
     let shape = shape_fields::shape_of(kind, norm_dir, rot_axis_dir, numbers);
@@ -49,9 +50,11 @@ pub extern "C" fn sizturga_bench_solid(
         triangles,
         work,
     );
-    let counts = t.mesh;
+    let made = t.mesh;
     let why = t.refusal;
-    *vertex_count = counts.vertices;
-    *triangle_count = counts.triangles;
+    let b = made.bounds;
+    *vertex_count = made.vertices;
+    *triangle_count = made.triangles;
+    crate::boxes::put_box(bounds, b);
     refusal::number(why)
 }

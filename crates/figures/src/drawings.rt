@@ -1,6 +1,7 @@
 // The solids with their counts.
 use crate::drawn;
 use crate::drawn::Drawn;
+use crate::records;
 use crate::written;
 use figures_lines::put_border;
 use figures_lines::put_first;
@@ -51,7 +52,7 @@ fn first(v: &[f64], t: &[u32]) {
     written::write(&line, n);
 }
 
-// A box from the origin, and its first points and triangles where they are asked.
+// A box from the origin, and, where they are asked, its first points and triangles and the box in its record.
 fn box_to(stop: Vec3, begin: bool) {
     let shape = Shape::Box {
         start: at(0.0, 0.0, 0.0),
@@ -67,6 +68,7 @@ fn box_to(stop: Vec3, begin: bool) {
     measures(m, &v, &t);
     if begin {
         first(&v, &t);
+        records::all(m, &mut v, &mut t);
     }
 }
 

@@ -4,6 +4,7 @@ mod drawings;
 mod drawn;
 mod extremes;
 mod outlines;
+mod records;
 mod written;
 
 fn main() {

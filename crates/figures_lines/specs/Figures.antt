@@ -10,7 +10,8 @@ use Rattle.slice_text.specs.Ascii.{ascii}
 use Rattle.slice_text.specs.Numbers.{decimalOf}
 use Rattle.figures_text.specs.Counts.{measuredOf}
 use Rattle.figures_text.specs.Floats.{floatBitsOf}
-use Rattle.figures_points.specs.Lists.{upTo, pointAt, triangleAt}
+use Rattle.math.specs.declared.BoundingBox.{BoundingBox}
+use Rattle.figures_points.specs.Lists.{upTo, pointOf, pointAt, triangleAt}
 
 -- the segments of an arc at 32 segments a turn, with its span by name
 abbrev pub arcOf : List ℕ → ℕ → List ℕ
@@ -41,3 +42,7 @@ measuresOf area volume = ascii "  area " ++ (measuredOf area ++ (ascii ", signed
 -- the first four vertices and the first two triangles of a mesh
 abbrev pub firstOf : List Float → List ℕ → List ℕ
 firstOf v t = ascii "  first vertices" ++ (upTo 4 (pointAt v) ++ (ascii "\n  first triangles" ++ (upTo 2 (triangleAt t) ++ ascii "\n")))
+
+-- the box in the record of a mesh, by the name of the mesh
+abbrev pub boundsOf : List ℕ → BoundingBox → List ℕ
+boundsOf name b = name ++ (ascii "box in the record " ++ (pointOf (b .min) ++ (ascii " to " ++ (pointOf (b .max) ++ ascii "\n"))))

@@ -6,5 +6,6 @@ mod meshes;
 pub use arcs_and_roots::put_arc;
 pub use arcs_and_roots::put_root;
 pub use meshes::put_border;
+pub use meshes::put_bounds;
 pub use meshes::put_first;
 pub use meshes::put_measures;

@@ -1,9 +1,11 @@
-// What a drawn mesh is: open or closed, its measures, its first points and triangles.
-ghost use Rattle.figures_lines.specs.Figures.{borderOf, measuresOf, firstOf};
+// What a drawn mesh is: open or closed, its measures, its first points and triangles, the box in its record.
+ghost use Rattle.figures_lines.specs.Figures.{borderOf, measuresOf, firstOf, boundsOf};
 ghost use Rattle.slice_text.specs.Line.{line, Puts};
+use figures_points::put_point;
 use figures_points::put_points;
 use figures_points::put_triangles;
 use figures_text::put_measured;
+use math::BoundingBox;
 use mesh_measures::Measured;
 use slice_text::put;
 
@@ -36,5 +38,19 @@ pub fn put_first(out: &mut [u8], at: usize, v: &[f64], t: &[u32]) -> usize
     to = put_points(out, to, v, 4);
     to = put(out, to, b"\n  first triangles");
     to = put_triangles(out, to, t, 2);
+    put(out, to, b"\n")
+}
+
+// The box in the record of a mesh, by the name of the mesh.
+pub fn put_bounds(out: &mut [u8], at: usize, name: &[u8], bounds: BoundingBox) -> usize
+    ensures { λ r. ⌜ Puts (boundsOf (now (name .entry)) bounds) (line (now (out .entry)) at) (line (now (out .exit)) r) ⌝ }
+{
+    let low = bounds.min;
+    let high = bounds.max;
+    let mut to = put(out, at, name);
+    to = put(out, to, b"box in the record ");
+    to = put_point(out, to, low);
+    to = put(out, to, b" to ");
+    to = put_point(out, to, high);
     put(out, to, b"\n")
 }

@@ -11,17 +11,18 @@ use Rattle.refusal.specs.declared.Refusal.{Refusal}
 use Rattle.refusal.specs.declared.Refusal.the-variants.{Accepted, NotFinite, NoRoom, BadMesh}
 use Rattle.slice.specs.Every.{countedPlaces}
 use Rattle.refusal.specs.Accepted.{isAccepted}
-use Rattle.mesh_check.specs.State.{State, meshOf, badMesh, notFinite, noRoom, Sound}
+use Rattle.mesh_check.specs.State.{State, meshOf, badMesh, notFinite, badBox, noRoom, Sound}
 use Rattle.mesh_check_append.specs.Append.{appendRefusal}
 use Rattle.slice_law.specs.Bools.{neither}
 use Rattle.mesh_check.proofs.Sound.{not-bad, sound, places-three, places-limit}
 use Rattle.mesh_check.proofs.Stored.{appended-vertices, appended-triangles}
 
-last : (a b c : Bool) → isAccepted (cond a BadMesh (cond b NotFinite (cond c NoRoom Accepted))) ≡ true → c ≡ false
-last true b c e = absurd (false≢true e)
-last false true c e = absurd (false≢true e)
-last false false true e = absurd (false≢true e)
-last false false false e = refl
+last : (a b c d : Bool) → isAccepted (cond a BadMesh (cond b NotFinite (cond c BadMesh (cond d NoRoom Accepted)))) ≡ true → d ≡ false
+last true b c d e = absurd (false≢true e)
+last false true c d e = absurd (false≢true e)
+last false false true d e = absurd (false≢true e)
+last false false false true e = absurd (false≢true e)
+last false false false false e = refl
 
 -- two meshes of which the second can be appended to the first
 pub record Appends (s o : State) : Type 0 where
@@ -34,13 +35,18 @@ pub record Appends (s o : State) : Type 0 where
   pub fits : (i : ℕ) → i < 3 * o .mesh .triangles → getD (o .triangles) i 0 + s .mesh .vertices < 2 ^ 32
 
 module _ (s o : State) (r : Refusal) (e : r ≡ appendRefusal s o) (h : isAccepted r ≡ true) where
+  abbrev short : Bool
+  short = noRoom (append (meshOf s) (meshOf o)) (length (s .vertices)) (length (s .triangles))
+
   good : (badMesh s || badMesh o) ≡ false
   unfolding appendRefusal
-  good = not-bad (badMesh s || badMesh o) (cond (notFinite s || notFinite o) NotFinite (cond (noRoom (append (meshOf s) (meshOf o)) (length (s .vertices)) (length (s .triangles))) NoRoom Accepted)) (sym (ap {B = Bool} isAccepted e) ∙ h)
+  good =
+      not-bad (badMesh s || badMesh o) (cond (notFinite s || notFinite o) NotFinite (cond (badBox s || badBox o) BadMesh (cond short NoRoom Accepted)))
+      (sym (ap {B = Bool} isAccepted e) ∙ h)
 
-  roomy : noRoom (append (meshOf s) (meshOf o)) (length (s .vertices)) (length (s .triangles)) ≡ false
+  roomy : short ≡ false
   unfolding appendRefusal
-  roomy = last (badMesh s || badMesh o) (notFinite s || notFinite o) (noRoom (append (meshOf s) (meshOf o)) (length (s .vertices)) (length (s .triangles))) (sym (ap {B = Bool} isAccepted e) ∙ h)
+  roomy = last (badMesh s || badMesh o) (notFinite s || notFinite o) (badBox s || badBox o) short (sym (ap {B = Bool} isAccepted e) ∙ h)
 
   soundS : Sound s
   soundS = sound s (neither (badMesh s) (badMesh o) good .0)

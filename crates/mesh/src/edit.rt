@@ -22,7 +22,7 @@ pub fn append(
     let k = mesh.triangles;
     let more_n = other.vertices;
     let more_k = other.triangles;
-    let refusal = mesh_check_append::append_refusal(
+    let checked = mesh_check_append::check_append(
         mesh,
         vertices,
         triangles,
@@ -30,6 +30,8 @@ pub fn append(
         other_vertices,
         other_triangles,
     );
+    let refusal = checked.refusal;
+    let union = checked.bounds;
     if !refusal::is_accepted(refusal) {
         return Edited { refusal, mesh };
     }
@@ -37,7 +39,7 @@ pub fn append(
     mesh_write::copy_up(triangles, 3 * k, other_triangles, 3 * more_k, n as u32);
     Edited {
         refusal,
-        mesh: mesh_check::record_of(n + more_n, k + more_k),
+        mesh: mesh_check::record_of(n + more_n, k + more_k, union),
     }
 }
 
@@ -45,11 +47,17 @@ pub fn append(
 pub fn flip(mesh: TriMesh, vertices: &[f64], triangles: &mut [u32]) -> Edited
     ensures { λ r. ⌜ GivesEdit (flipOf (state mesh (now (vertices .entry)) (now (triangles .entry)))) r (now (vertices .entry)) (now (triangles .exit)) ⌝ }
 {
+    let n = mesh.vertices;
     let k = mesh.triangles;
-    let refusal = mesh_check::check(mesh, vertices, triangles);
+    let checked = mesh_check::check(mesh, vertices, triangles);
+    let refusal = checked.refusal;
+    let bounds = checked.bounds;
     if !refusal::is_accepted(refusal) {
         return Edited { refusal, mesh };
     }
     mesh_write::turn_all(triangles, k);
-    Edited { refusal, mesh }
+    Edited {
+        refusal,
+        mesh: mesh_check::record_of(n, k, bounds),
+    }
 }

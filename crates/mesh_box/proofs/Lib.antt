@@ -1,2 +1,3 @@
--- Laws of the box, for the proofs of `mesh_box`.
+-- Laws of the box, for the proofs of loops that gather one.
 pub mod Including
+pub mod FiniteFloats

@@ -1,2 +1,3 @@
 -- What the contracts of `mesh_box` cite.
 pub mod ZeroBox
+pub mod FiniteBox

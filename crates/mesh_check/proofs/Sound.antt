@@ -12,7 +12,7 @@ use Rattle.refusal.specs.declared.Refusal.{Refusal}
 use Rattle.refusal.specs.declared.Refusal.the-variants.{Accepted, NotFinite, BadMesh}
 use Rattle.slice.specs.Every.{countedPlaces, every}
 use Rattle.refusal.specs.Accepted.{isAccepted}
-use Rattle.mesh_check.specs.State.{State, badMesh, notFinite, checkOf, Sound}
+use Rattle.mesh_check.specs.State.{State, badMesh, notFinite, badBox, checkOf, Sound}
 use Rattle.slice_bounded.specs.Bounded.{isBounded}
 use Rattle.mesh_move_affine.specs.Affine.{FiniteVertices, Tested}
 use Rattle.slice.specs.EveryLaws.{every-at}
@@ -55,8 +55,9 @@ module _ (s : State) (good : badMesh s ≡ false) where
   unfolding notFinite
   finite-vertices h = record { within = sound .vertices; finite = not-false (every finite (take (3 * s .mesh .vertices) (s .vertices))) h }
 
-  pub tested : notFinite s ≡ false → (small : Bool) → small ≡ every isBounded (take (3 * s .mesh .vertices) (s .vertices)) → Tested (s .vertices) (s .mesh .vertices) small
-  tested h small e = record { vertices = finite-vertices h; bounded = λ t. sym e ∙ t }
+  pub tested : notFinite s ≡ false → (small : Bool) → (small ≡ true → every isBounded (take (3 * s .mesh .vertices) (s .vertices)) ≡ true)
+      → Tested (s .vertices) (s .mesh .vertices) small
+  tested h small e = record { vertices = finite-vertices h; bounded = e }
 
 -- ---- a call that was accepted
 -- its first test did not refuse
@@ -66,7 +67,7 @@ not-bad false q e = refl
 
 pub check-sound : (s : State) (r : Refusal) → r ≡ checkOf s → isAccepted r ≡ true → Sound s
 unfolding checkOf
-check-sound s r e h = sound s (not-bad (badMesh s) (cond (notFinite s) NotFinite Accepted) (sym (ap {B = Bool} isAccepted e) ∙ h))
+check-sound s r e h = sound s (not-bad (badMesh s) (cond (notFinite s) NotFinite (cond (badBox s) BadMesh Accepted)) (sym (ap {B = Bool} isAccepted e) ∙ h))
 
 -- ---- the tests in their order
 module _ (s : State) where

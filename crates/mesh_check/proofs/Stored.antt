@@ -1,4 +1,4 @@
--- The slices of a stored mesh, by parts of the slices before. Assumes nothing.
+-- The record and the slices of a stored mesh, by parts of the slices before. Assumes nothing.
 use mathlib.Core.Path.{_≡_, refl, ap, _∙_}
 use mathlib.Core.List.{List, _++_, map, map-map}
 use Prim.Native.Nat.{ℕ, _+_, _*_}
@@ -8,6 +8,7 @@ use lib.Seq.{paste, length-take-le}
 use lib.Ieee.{Float}
 use Rattle.slice_law.specs.Lists.{map-take}
 use Rattle.math.specs.declared.Vec3.{Vec3}
+use Rattle.math.specs.declared.BoundingBox.{BoundingBox}
 use Rattle.math_matrix.specs.declared.Mat4.{Mat4}
 use Rattle.math_matrix.specs.Mat.{transformPoint}
 use Rattle.mesh_balance_spec.specs.Soup.{Tri, mapTri}
@@ -15,16 +16,20 @@ use Rattle.mesh_balance_spec.specs.Soup.{flipTri}
 use Rattle.mesh_balance_spec.specs.Buffer.{flat, tris, flat-append}
 use Rattle.mesh_spec.specs.Mesh.{Mesh, append, flip}
 use Rattle.mesh_spec.specs.Edits.{moved}
+use Rattle.mesh_spec.specs.Measures.{boxOf, boundingBox}
 use Rattle.mesh_spec.specs.Slices.{flatV, points, triOf, vecOf}
 use Rattle.mesh_spec.specs.SliceLaws.{flat-tris, flat-map, length-tris, points-tris, flatV-flat, flatV-append, flatV-points, length-points}
+use Rattle.mesh_check.specs.declared.TriMesh.{TriMesh}
 use Rattle.mesh_check.specs.State.{recordOf, State, state, meshOf, stored, Sound}
 use Rattle.mesh_triples.specs.Triples.{eachTo, movedTriple}
 
--- a stored mesh, where its counts and its floats and numbers are known
-stored-is : (m : Mesh) (s : State) (n k : ℕ) (fv : List Float) (ft : List ℕ) → length (m .vertices) ≡ n → length (m .triangles) ≡ k → flatV (m .vertices) ≡ fv → flat (m .triangles) ≡ ft
-    → stored m s ≡ state (recordOf n k) (fv ++ drop (3 * n) (s .vertices)) (ft ++ drop (3 * k) (s .triangles))
+-- a stored mesh, where its counts, its box and its floats and numbers are known
+stored-is : (m : Mesh) (s : State) (n k : ℕ) (b : BoundingBox) (fv : List Float) (ft : List ℕ) → length (m .vertices) ≡ n → length (m .triangles) ≡ k
+    → boundingBox m ≡ b → flatV (m .vertices) ≡ fv → flat (m .triangles) ≡ ft
+    → stored m s ≡ state (recordOf n k b) (fv ++ drop (3 * n) (s .vertices)) (ft ++ drop (3 * k) (s .triangles))
 unfolding stored
-stored-is m s n k fv ft en ek ev et = λ j. state (recordOf (en j) (ek j)) (ev j ++ drop (3 * en j) (s .vertices)) (et j ++ drop (3 * ek j) (s .triangles))
+stored-is m s n k b fv ft en ek eb ev et =
+    λ j. state (recordOf (en j) (ek j) (eb j)) (ev j ++ drop (3 * en j) (s .vertices)) (et j ++ drop (3 * ek j) (s .triangles))
 
 -- ---- the mesh in the slices
 module _ (s : State) (ok : Sound s) where
@@ -57,11 +62,13 @@ module _ (s : State) (ok : Sound s) where
   numbers = flat-tris k (take (3 * k) (s .triangles)) (length-take-le (3 * k) (s .triangles) (ok .triangles))
 
   -- ---- flip
-  pub stored-flip : stored (flip (meshOf s)) s ≡ state (s .mesh) (s .vertices) (eachTo flipTri k (s .triangles))
-  unfolding flip eachTo meshOf
+  -- the vertices stay, and so does their box
+  pub stored-flip : stored (flip (meshOf s)) s ≡ state (recordOf n k (boundingBox (meshOf s))) (s .vertices) (eachTo flipTri k (s .triangles))
+  unfolding flip eachTo meshOf boundingBox
   stored-flip =
-      stored-is (flip (meshOf s)) s n k (take (3 * n) (s .vertices)) (flat (map flipTri ts)) mesh-vertices (length-map ts flipTri ∙ mesh-triangles) floats refl
-      ∙ (λ j. state (recordOf n k) (take-append-drop (3 * n) (s .vertices) j) (flat (map flipTri ts) ++ drop (3 * k) (s .triangles)))
+      stored-is (flip (meshOf s)) s n k (boxOf ps) (take (3 * n) (s .vertices)) (flat (map flipTri ts)) mesh-vertices (length-map ts flipTri ∙ mesh-triangles)
+      refl floats refl
+      ∙ (λ j. state (recordOf n k (boxOf ps)) (take-append-drop (3 * n) (s .vertices) j) (flat (map flipTri ts) ++ drop (3 * k) (s .triangles)))
 
   -- ---- transform
   triples : (a : Mat4) → flatV (map (transformPoint a) ps) ≡ flat (map (movedTriple a) (tris (take (3 * n) (s .vertices))))
@@ -76,17 +83,25 @@ module _ (s : State) (ok : Sound s) where
   unfolding meshOf
   length-moved a = length-map ps (transformPoint a) ∙ mesh-vertices
 
-  pub stored-moved : (a : Mat4) → stored (moved a (meshOf s)) s ≡ state (s .mesh) (eachTo (movedTriple a) n (s .vertices)) (s .triangles)
-  unfolding moved eachTo meshOf
-  stored-moved a =
-      stored-is (moved a (meshOf s)) s n k (flat (map (movedTriple a) (tris (take (3 * n) (s .vertices))))) (take (3 * k) (s .triangles)) (length-moved a) mesh-triangles (triples a) numbers
-      ∙ (λ j. state (recordOf n k) (flat (map (movedTriple a) (tris (take (3 * n) (s .vertices)))) ++ drop (3 * n) (s .vertices)) (take-append-drop (3 * k) (s .triangles) j))
+  -- the counts stay, and the box is that of the moved vertices
+  abbrev movedRecord : Mat4 → TriMesh
+  movedRecord a = recordOf n k (boxOf (map (transformPoint a) ps))
 
-  pub stored-mirrored : (a : Mat4) → stored (flip (moved a (meshOf s))) s ≡ state (s .mesh) (eachTo (movedTriple a) n (s .vertices)) (eachTo flipTri k (s .triangles))
-  unfolding flip moved eachTo meshOf
+  pub stored-moved : (a : Mat4) → stored (moved a (meshOf s)) s ≡ state (movedRecord a) (eachTo (movedTriple a) n (s .vertices)) (s .triangles)
+  unfolding moved eachTo meshOf boundingBox
+  stored-moved a =
+      let fv = flat (map (movedTriple a) (tris (take (3 * n) (s .vertices)))) in
+      stored-is (moved a (meshOf s)) s n k (boxOf (map (transformPoint a) ps)) fv (take (3 * k) (s .triangles)) (length-moved a) mesh-triangles refl
+      (triples a) numbers
+      ∙ (λ j. state (movedRecord a) (fv ++ drop (3 * n) (s .vertices)) (take-append-drop (3 * k) (s .triangles) j))
+
+  pub stored-mirrored : (a : Mat4)
+      → stored (flip (moved a (meshOf s))) s ≡ state (movedRecord a) (eachTo (movedTriple a) n (s .vertices)) (eachTo flipTri k (s .triangles))
+  unfolding flip moved eachTo meshOf boundingBox
   stored-mirrored a =
-      stored-is (flip (moved a (meshOf s))) s n k (flat (map (movedTriple a) (tris (take (3 * n) (s .vertices))))) (flat (map flipTri ts)) (length-moved a)
-      (length-map ts flipTri ∙ mesh-triangles) (triples a) refl
+      let fv = flat (map (movedTriple a) (tris (take (3 * n) (s .vertices)))) in
+      stored-is (flip (moved a (meshOf s))) s n k (boxOf (map (transformPoint a) ps)) fv (flat (map flipTri ts)) (length-moved a)
+      (length-map ts flipTri ∙ mesh-triangles) refl (triples a) refl
 
 -- ---- append
 module _ (s o : State) (ok : Sound s) (fine : Sound o) where
@@ -125,11 +140,13 @@ module _ (s o : State) (ok : Sound s) (fine : Sound o) where
   three-sum : (a b : ℕ) → 3 * (a + b) ≡ 3 * a + 3 * b
   three-sum a b = omega arith
 
-  pub stored-append : stored (append (meshOf s) (meshOf o)) s ≡ state (recordOf vn tn) (paste (s .vertices) (3 * s .mesh .vertices) (o .vertices) (3 * o .mesh .vertices))
+  pub stored-append : stored (append (meshOf s) (meshOf o)) s
+      ≡ state (recordOf vn tn (boundingBox (append (meshOf s) (meshOf o)))) (paste (s .vertices) (3 * s .mesh .vertices) (o .vertices) (3 * o .mesh .vertices))
       (paste (s .triangles) (3 * s .mesh .triangles) (map up (o .triangles)) (3 * o .mesh .triangles))
   stored-append =
       let fv = take (3 * s .mesh .vertices) (s .vertices) ++ take (3 * o .mesh .vertices) (o .vertices) in
       let ft = take (3 * s .mesh .triangles) (s .triangles) ++ take (3 * o .mesh .triangles) (map up (o .triangles)) in
-      stored-is (append (meshOf s) (meshOf o)) s vn tn fv ft appended-vertices appended-triangles floats-append numbers-append
-      ∙ (λ j. state (recordOf vn tn) (fv ++ drop (three-sum (s .mesh .vertices) (o .mesh .vertices) j) (s .vertices))
+      let b = boundingBox (append (meshOf s) (meshOf o)) in
+      stored-is (append (meshOf s) (meshOf o)) s vn tn b fv ft appended-vertices appended-triangles refl floats-append numbers-append
+      ∙ (λ j. state (recordOf vn tn b) (fv ++ drop (three-sum (s .mesh .vertices) (o .mesh .vertices) j) (s .vertices))
       (ft ++ drop (three-sum (s .mesh .triangles) (o .mesh .triangles) j) (s .triangles)))

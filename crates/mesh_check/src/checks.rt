@@ -1,9 +1,10 @@
-// What every mesh call checks: refusal 8 of docs/SCOPE.md.
+// What every mesh call checks first: refusal 8 of docs/SCOPE.md, but for the box.
 ghost use mathlib.Core.Path.{_≡_};
 ghost use Rattle.mesh_check.specs.State.{state, badMesh};
 use crate::TriMesh;
 
-// 8: a count is above the whole places of its slice, of which at most 4,294,967,295 count, or a number in a triangle is not below the vertex count.
+// 8 for the counts and the numbers: a count is above the whole places of its slice, of which at most 4,294,967,295 count, or a number in a triangle is not
+// below the vertex count.
 pub fn bad_mesh(mesh: TriMesh, vertices: &[f64], triangles: &[u32]) -> bool
     ensures { λ r. ⌜ r ≡ badMesh (state mesh (now (vertices .entry)) (now (triangles .entry))) ⌝ }
 {

@@ -1,4 +1,4 @@
--- docs/SCOPE.md, "Lists of calls": what holds of a mesh after any list of appends, flips and transforms, refused ones included.
+-- docs/SCOPE.md, "Lists of calls": what holds of a mesh and of its record's box after any list of appends, flips and transforms, refused ones included.
 -- The calls are those that the contracts of `append`, `flip` and `transform` cite. Assumes nothing.
 -- Counts beyond the slices need no exception, since check 8 refuses then.
 use mathlib.Core.Path.{_≡_, refl, sym, subst}
@@ -6,12 +6,14 @@ use mathlib.Core.Bool.{Bool, true, false, cond}
 use mathlib.Core.List.{List, [], _∷_}
 use Prim.Native.Nat.{ℕ}
 use lib.ListN.{take}
-use lib.Dec.{eqb}
+use lib.Dec.{T, eqb}
 use Rattle.math_matrix.specs.declared.Mat4.{Mat4}
 use Rattle.transform.specs.declared.TransformOp.{TransformOp}
 use Rattle.transform.specs.Ops.{folded}
 use Rattle.mesh_spec.specs.Mesh.{Mesh, append, flip}
 use Rattle.mesh_spec.specs.Edits.{transform}
+use Rattle.mesh_spec.specs.Measures.{boundingBox, sameBox}
+use Rattle.mesh_box_law.specs.Boxes.{box-same}
 use Rattle.mesh_balance_spec.specs.Count.{EdgesBalance}
 use Rattle.mesh_spec.specs.Closed.{NoneTwice, AllThere, Closed, Proper}
 use Rattle.mesh_spec.specs.EdgeLaws.{append-edges, flip-edges, transform-edges}
@@ -21,7 +23,7 @@ use Rattle.refusal.specs.declared.Refusal.{Refusal}
 use Rattle.refusal.specs.declared.Refusal.the-variants.{Accepted}
 use Rattle.refusal.specs.Accepted.{isAccepted}
 use Rattle.refusal.specs.Laws.{accepted-is}
-use Rattle.mesh_check.specs.State.{State, meshOf, stored, checkOf}
+use Rattle.mesh_check.specs.State.{State, meshOf, stored, checkOf, hasRightBox, RightBox}
 use Rattle.mesh_edit_law.specs.Outcome.{EditOutcome, edited}
 use Rattle.mesh_check.specs.StateLaws.{mesh-stored}
 use Rattle.mesh_check_append.specs.Append.{appendRefusal}
@@ -61,7 +63,7 @@ AllBring P (c ∷ cs) s = Brings P c s × AllBring P cs (outcome c s .state)
 abbrev pub Kept : (Mesh → Type 0) → State → List Call → Type 0
 Kept P s calls = P (meshOf s) → AllBring P calls s → P (meshOf (after s calls))
 
--- docs/SCOPE.md, "Lists of calls": closed stays closed, and each of the three properties of a closed mesh stays by itself
+-- docs/SCOPE.md, "Lists of calls": closed stays closed, and each of the three properties of a closed mesh stays by itself; a right box stays right
 pub record KeptByLists : Type 0 where
   pub closed : (s : State) (calls : List Call) → Kept Closed s calls
   pub edgesBalance : (s : State) (calls : List Call) → Kept (λ m. EdgesBalance (m .triangles)) s calls
@@ -69,6 +71,8 @@ pub record KeptByLists : Type 0 where
   pub allThere : (s : State) (calls : List Call) → Kept AllThere s calls
   -- so do the last two together, which sheets have as well
   pub proper : (s : State) (calls : List Call) → Kept Proper s calls
+  -- the record's box is right after the list if it was at the start, whatever box a mesh to append claims
+  pub rightBox : (s : State) (calls : List Call) → RightBox s → RightBox (after s calls)
 
 -- ---- the proof
 -- the three edits of a mesh keep a property
@@ -77,44 +81,50 @@ record KeptByEdits (P : Mesh → Type 0) : Type 0 where
   flipped : (m : Mesh) → P m → P (flip m)
   transformed : (a : Mat4) (m : Mesh) → P m → P (transform a m)
 
-module _ (P : Mesh → Type 0) (k : KeptByEdits P) (s : State) (start : P (meshOf s)) where
-  held : (m : Mesh) → P m → P (meshOf (stored m s))
-  held m p = subst P (sym (mesh-stored m s)) p
-
-  -- after an edit to t, where t has the property unless the call is refused
-  by-edit : (r : Refusal) (t : State) → (r ≡ Accepted → P (meshOf t)) → P (meshOf (edited r s t .state))
+-- a call keeps a property of the state where the state after its edit has it
+module _ (Q : State → Type 0) (s : State) (start : Q s) where
+  -- an edit to t, which has the property unless the call is refused
+  by-edit : (r : Refusal) (t : State) → (r ≡ Accepted → Q t) → Q (edited r s t .state)
   unfolding edited
   by-edit r t h = go (isAccepted r) refl
     where
-      go : (u : Bool) → isAccepted r ≡ u → P (meshOf (cond u t s))
+      go : (u : Bool) → isAccepted r ≡ u → Q (cond u t s)
       go true e = h (accepted-is r e)
       go false e = start
 
-  by-append : (o : State) → (appendOf s o .refusal ≡ Accepted → P (meshOf o)) → P (meshOf (appendOf s o .state))
+  by-append : (o : State) → (appendOf s o .refusal ≡ Accepted → Q (stored (append (meshOf s) (meshOf o)) s)) → Q (appendOf s o .state)
   unfolding appendOf
-  by-append o h =
-      let m = append (meshOf s) (meshOf o) in
-      by-edit (appendRefusal s o) (stored m s) (λ e. held m (k .appended (meshOf s) (meshOf o) start (h e)))
+  by-append o h = by-edit (appendRefusal s o) (stored (append (meshOf s) (meshOf o)) s) h
 
-  by-flip : P (meshOf (flipOf s .state))
+  by-flip : Q (stored (flip (meshOf s)) s) → Q (flipOf s .state)
   unfolding flipOf
-  by-flip = by-edit (checkOf s) (stored (flip (meshOf s)) s) (λ e. held (flip (meshOf s)) (k .flipped (meshOf s) start))
+  by-flip h = by-edit (checkOf s) (stored (flip (meshOf s)) s) (λ e. h)
 
-  by-transform : (ops : List TransformOp) (count : ℕ) (degrees : Bool) → P (meshOf (transformOf ops count degrees s .state))
-  unfolding transformOf transformed
-  by-transform ops count degrees = by-edit (transformRefusal ops count degrees s) (cond (eqb count 0) s (stored m s)) (λ e. go (eqb count 0))
+  by-transform : (ops : List TransformOp) (count : ℕ) (degrees : Bool) → Q (stored (transformed ops count degrees (meshOf s)) s)
+      → Q (transformOf ops count degrees s .state)
+  unfolding transformOf
+  by-transform ops count degrees h =
+      by-edit (transformRefusal ops count degrees s) (cond (eqb count 0) s (stored (transformed ops count degrees (meshOf s)) s)) (λ e. go (eqb count 0))
     where
-      m : Mesh
-      m = transformed ops count degrees (meshOf s)
-
-      go : (b : Bool) → P (meshOf (cond b s (stored m s)))
+      go : (b : Bool) → Q (cond b s (stored (transformed ops count degrees (meshOf s)) s))
       go true = start
-      go false = held m (k .transformed (folded degrees (take count ops)) (meshOf s) start)
+      go false = h
 
-  by-call : (c : Call) → Brings P c s → P (meshOf (outcome c s .state))
-  by-call (Append o) h = by-append o h
-  by-call Flip h = by-flip
-  by-call (Transform ops count degrees) h = by-transform ops count degrees
+-- ---- properties of the mesh
+module _ (P : Mesh → Type 0) (k : KeptByEdits P) (s : State) (start : P (meshOf s)) where
+  abbrev ofMesh : State → Type 0
+  ofMesh t = P (meshOf t)
+
+  held : (m : Mesh) → P m → ofMesh (stored m s)
+  held m p = subst P (sym (mesh-stored m s)) p
+
+  by-call : (c : Call) → Brings P c s → ofMesh (outcome c s .state)
+  unfolding transformed
+  by-call (Append o) h = by-append ofMesh s start o (λ e. held (append (meshOf s) (meshOf o)) (k .appended (meshOf s) (meshOf o) start (h e)))
+  by-call Flip h = by-flip ofMesh s start (held (flip (meshOf s)) (k .flipped (meshOf s) start))
+  by-call (Transform ops count degrees) h =
+      by-transform ofMesh s start ops count degrees
+      (held (transformed ops count degrees (meshOf s)) (k .transformed (folded degrees (take count ops)) (meshOf s) start))
 
 by-list : (P : Mesh → Type 0) → KeptByEdits P → (s : State) (calls : List Call) → Kept P s calls
 by-list P k s [] start h = start
@@ -137,7 +147,22 @@ none-twice-kept = by-list NoneTwice (record { appended = append-none-twice; flip
 all-there-kept : (s : State) (calls : List Call) → Kept AllThere s calls
 all-there-kept = by-list AllThere (record { appended = append-all-there; flipped = flip-all-there; transformed = transform-all-there })
 
--- demand 3, the lists
+-- ---- the record's box
+-- a stored mesh has its own box
+right-stored : (m : Mesh) (s : State) → RightBox (stored m s)
+unfolding stored boundingBox hasRightBox
+right-stored m s = subst (λ (x : Mesh). T (sameBox (boundingBox m) (boundingBox x))) (sym (mesh-stored m s)) (box-same (m .vertices))
+
+right-by-call : (c : Call) (s : State) → RightBox s → RightBox (outcome c s .state)
+right-by-call (Append o) s r = by-append RightBox s r o (λ e. right-stored (append (meshOf s) (meshOf o)) s)
+right-by-call Flip s r = by-flip RightBox s r (right-stored (flip (meshOf s)) s)
+right-by-call (Transform ops count degrees) s r = by-transform RightBox s r ops count degrees (right-stored (transformed ops count degrees (meshOf s)) s)
+
+right-kept : (s : State) (calls : List Call) → RightBox s → RightBox (after s calls)
+right-kept s [] r = r
+right-kept s (c ∷ cs) r = right-kept (outcome c s .state) cs (right-by-call c s r)
+
+-- demand 3, the lists, and the box
 pub kept-by-lists : KeptByLists
 kept-by-lists = record {
   closed = by-list Closed (record { appended = append-closed; flipped = flip-closed; transformed = transform-closed });
@@ -148,4 +173,5 @@ kept-by-lists = record {
     noneTwice = none-twice-kept s calls (p .noneTwice) (all-bring Proper NoneTwice (λ m q. q .noneTwice) calls s b);
     allThere = all-there-kept s calls (p .allThere) (all-bring Proper AllThere (λ m q. q .allThere) calls s b);
   };
+  rightBox = right-kept;
 }

@@ -2,7 +2,7 @@
 use mesh_check::TriMesh;
 use refusal::Refusal;
 
-// What an edit answers: refused or accepted, and the counts after it.
+// What an edit answers: refused or accepted, and the record after it.
 pub struct Edited {
     pub refusal: Refusal,
     pub mesh: TriMesh,

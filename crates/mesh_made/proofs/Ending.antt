@@ -16,9 +16,10 @@ use Rattle.refusal.specs.Accepted.{isAccepted}
 use Rattle.refusal.specs.Laws.{accepted-is}
 use Rattle.mesh_spec.specs.Mesh.{Mesh}
 use Rattle.mesh_spec.specs.Slices.{flatV}
+use Rattle.mesh_spec.specs.Measures.{boundingBox}
 use Rattle.mesh_spec.specs.SliceLaws.{take-flat, take-flatV, length-flatV}
 use Rattle.mesh_check.specs.declared.TriMesh.{TriMesh}
-use Rattle.mesh_check.specs.State.{recordOf, State, state, stored}
+use Rattle.mesh_check.specs.State.{recordOf, emptyRecord, State, state, stored}
 use Rattle.mesh_check.proofs.Lying.{lies}
 use Rattle.mesh_made.specs.declared.Made.{Made}
 use Rattle.mesh_made.specs.Made.{Lent, lent, refusedWith, acceptedWith, Ending, refusedAs, acceptedAs, madeAs, GivesMade}
@@ -70,9 +71,13 @@ module _ (m : Mesh) (s t : State) (held : t ≡ stored m s) where
   pub front-numbers : take (3 * t .mesh .triangles) (t .triangles) ≡ flat (m .triangles)
   front-numbers = (λ j. take (3 * triangles-counted j) (all-numbers j)) ∙ take-flat (m .triangles) (drop (3 * length (m .triangles)) (s .triangles))
 
+  pub recorded-bounds : t .mesh .bounds ≡ boundingBox m
+  unfolding stored
+  recorded-bounds = λ j. held j .mesh .bounds
+
   -- they hold m, and what stands after it is theirs
   pub again : t ≡ stored m t
-  again = lies m t (sym front-floats) (sym vertices-counted) (sym front-numbers) (sym triangles-counted)
+  again = lies m t (sym front-floats) (sym vertices-counted) (sym front-numbers) (sym triangles-counted) recorded-bounds
 
   pub vertices-lie : 3 * t .mesh .vertices ≤ length (t .vertices)
   vertices-lie =
@@ -107,10 +112,10 @@ module _ (q : Refusal) (m : Mesh) (made : Made) (vs : List Float) (ts ws : List 
   answered = (λ j. E .answer j .refusal) ∙ M .refusal
 
   -- refused
-  gives-refused : r .mesh ≡ recordOf 0 0 → GivesMade (refusedAs q (lent vs ts ws)) r vs' ts' ws'
+  gives-refused : r .mesh ≡ emptyRecord → GivesMade (refusedAs q (lent vs ts ws)) r vs' ts' ws'
   unfolding refusedAs
   gives-refused e =
-      let c : made .mesh ≡ recordOf 0 0 = sym (λ j. E .answer j .mesh) ∙ e in
+      let c : made .mesh ≡ emptyRecord = sym (λ j. E .answer j .mesh) ∙ e in
       record {
         refusal = answered;
         number = ap numberOf answered;
@@ -130,7 +135,7 @@ module _ (q : Refusal) (m : Mesh) (made : Made) (vs : List Float) (ts ws : List 
       record {
         refusal = answered ∙ e;
         number = ap numberOf (answered ∙ e);
-        mesh = (λ j. E .answer j .mesh) ∙ (λ j. recordOf (nv j) (nt j));
+        mesh = (λ j. E .answer j .mesh) ∙ (λ j. recordOf (nv j) (nt j) (recorded-bounds m s s h j));
         vertices = E .keeps .vertices ∙ (λ j. front-floats m s s h j ++ replicate (length vs - 3 * nv j) (ofBits binary64 0));
         triangles = E .keeps .triangles ∙ (λ j. front-numbers m s s h j ++ replicate (length ts - 3 * nt j) 0);
         work = E .keeps .work ∙ cleared-all 0 ws;

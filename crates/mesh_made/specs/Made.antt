@@ -14,7 +14,7 @@ use Rattle.mesh_balance_spec.specs.Buffer.{flat}
 use Rattle.mesh_spec.specs.Mesh.{Mesh}
 use Rattle.mesh_spec.specs.Slices.{flatV}
 use Rattle.mesh_check.specs.declared.TriMesh.{TriMesh}
-use Rattle.mesh_check.specs.State.{recordOf, State, state}
+use Rattle.mesh_check.specs.State.{recordFor, emptyRecord, State, state}
 use Rattle.mesh_made.specs.declared.Made.{Made}
 
 -- the lengths of the lent slices: floats for vertices, numbers for triangles, numbers of work
@@ -32,7 +32,7 @@ shortWork vertices work = ltb work (2 * (vertices / 3))
 
 -- the answer of a refused call: the empty record; and of an accepted one
 abbrev pub refusedWith : Refusal → Made
-refusedWith q = record { refusal = q; mesh = recordOf 0 0 }
+refusedWith q = record { refusal = q; mesh = emptyRecord }
 
 abbrev pub acceptedWith : TriMesh → Made
 acceptedWith m = record { refusal = Accepted; mesh = m }
@@ -47,15 +47,15 @@ pub record Ending : Type 0 where
 unfoldable pub refusedAs : Refusal → Lent → Ending
 refusedAs q n = record {
   refusal = q;
-  state = state (recordOf 0 0) (replicate (n .vertices) (ofBits binary64 0)) (replicate (n .triangles) 0);
+  state = state emptyRecord (replicate (n .vertices) (ofBits binary64 0)) (replicate (n .triangles) 0);
   work = replicate (n .work) 0;
 }
 
--- accepted: the mesh, zeros in the places after it, a broken last one included; the work slice zero
+-- accepted: the mesh with its record, zeros in the places after it, a broken last one included; the work slice zero
 unfoldable pub acceptedAs : Mesh → Lent → Ending
 acceptedAs m n = record {
   refusal = Accepted;
-  state = state (recordOf (length (m .vertices)) (length (m .triangles)))
+  state = state (recordFor m)
       (flatV (m .vertices) ++ replicate (n .vertices - 3 * length (m .vertices)) (ofBits binary64 0))
       (flat (m .triangles) ++ replicate (n .triangles - 3 * length (m .triangles)) 0);
   work = replicate (n .work) 0;

@@ -3,6 +3,7 @@ use mathlib.Core.Path.{_≡_}
 use mathlib.Core.Bool.{true, false, not, cond}
 use mathlib.Core.List.{List}
 use Prim.Native.Nat.{ℕ, _*_}
+use lib.ListN.{take}
 use lib.Ieee.{Float, binary64, ofBits}
 use Rattle.refusal.specs.declared.Refusal.{Refusal}
 use Rattle.refusal.specs.declared.Refusal.the-variants.{Accepted, PointNotFinite, NoRoom}
@@ -10,8 +11,10 @@ use Rattle.refusal.specs.Accepted.{isAccepted}
 use Rattle.slice.specs.Cleared.{clearedFrom}
 use Rattle.mesh_spec.specs.Mesh.{Mesh, fromParts}
 use Rattle.mesh_spec.specs.Parts.{Soup, partsFinite}
+use Rattle.mesh_spec.specs.Slices.{points}
+use Rattle.mesh_spec.specs.Measures.{boxOf}
 use Rattle.mesh_check.specs.declared.TriMesh.{TriMesh}
-use Rattle.mesh_check.specs.State.{recordOf, state, stored, noRoom}
+use Rattle.mesh_check.specs.State.{recordOf, emptyRecord, state, stored, noRoom}
 use Rattle.weld.specs.declared.Welder.{Welder}
 use Rattle.mesh_made.specs.declared.Made.{Made}
 use Rattle.mesh_made.specs.Made.{Lent, refusedWith, acceptedWith}
@@ -19,7 +22,7 @@ use Rattle.mesh_made.specs.Made.{Lent, refusedWith, acceptedWith}
 -- what a call has made before its end: the refusal q with the empty record; or no refusal, and the mesh m lies at the start of the slices
 pub record Makes (q : Refusal) (m : Mesh) (r : Made) (vs : List Float) (ts : List ℕ) : Type 0 where
   pub refusal : r .refusal ≡ q
-  pub refused : isAccepted q ≡ false → r .mesh ≡ recordOf 0 0
+  pub refused : isAccepted q ≡ false → r .mesh ≡ emptyRecord
   pub holds : isAccepted q ≡ true → state (r .mesh) vs ts ≡ stored m (state (r .mesh) vs ts)
 
 -- 5 over the points of the parts, then 7 over their mesh
@@ -29,9 +32,13 @@ partsRefusal parts n =
     (cond (noRoom (fromParts parts) (n .vertices) (n .triangles)) NoRoom
     Accepted)
 
--- the same, as the welder's state tells it
-abbrev pub judged : Welder → Made
-judged w = cond (w .finite) (cond (w .room) (acceptedWith (recordOf (w .count) (w .faces))) (refusedWith NoRoom)) (refusedWith PointNotFinite)
+-- the record of the welded mesh: the welder's counts, and the box of the vertices at the start of the slice
+abbrev pub weldedRecord : Welder → List Float → TriMesh
+weldedRecord w vs = recordOf (w .count) (w .faces) (boxOf (points (take (3 * w .count) vs)))
+
+-- 5 and 7 as the welder's state tells them, or its mesh
+abbrev pub judged : Welder → List Float → Made
+judged w vs = cond (w .finite) (cond (w .room) (acceptedWith (weldedRecord w vs)) (refusedWith NoRoom)) (refusedWith PointNotFinite)
 
 -- the counted places stay, zeros stand after them and in the work slice
 pub record Keeps (m : TriMesh) (vs : List Float) (ts ws : List ℕ) (vs' : List Float) (ts' ws' : List ℕ) : Type 0 where

@@ -20,7 +20,7 @@ pub fn refused(refusal: Refusal) -> Made
 {
     Made {
         refusal,
-        mesh: mesh_check::record_of(0, 0),
+        mesh: mesh_check::empty_record(),
     }
 }
 
@@ -41,10 +41,12 @@ pub fn short_work(vertices: usize, work: usize) -> bool
     work < 2 * (vertices / 3)
 }
 
-// Refusals 5 and 7, as the welder tells them, or its mesh.
-pub fn judge(w: Welder) -> Made
-    ensures { λ r. ⌜ r ≡ judged w ⌝ }
+// Refusals 5 and 7, as the welder tells them, or its mesh, whose vertices lie at the start of the slice.
+pub fn judge(w: Welder, vertices: &[f64]) -> Made
+    requires { ⌜ 3 * w .count ≤ length (now vertices) ⌝ }
+    ensures { λ r. ⌜ r ≡ judged w (now (vertices .entry)) ⌝ }
 {
+    let n = w.count;
     let finite = w.finite;
     let room = w.room;
     if !finite {
@@ -53,7 +55,7 @@ pub fn judge(w: Welder) -> Made
     if !room {
         return refused(Refusal::NoRoom);
     }
-    accepted(mesh_check::record_of(w.count, w.faces))
+    accepted(mesh_check::record_of(n, w.faces, mesh_box::box_of(vertices, n)))
 }
 
 // The counted places stay. Every later element is zero, those of a last place that is not whole too, and so is the work slice.

@@ -9,25 +9,23 @@ use lib.Seq.{length-take-le}
 use lib.Ieee.{Float, binary64, toBits}
 use Rattle.math.specs.declared.Vec3.{Vec3}
 use Rattle.math.specs.declared.BoundingBox.{BoundingBox}
-use Rattle.math.specs.Box.{emptyBox}
 use Rattle.math.specs.Vec.{zeroV}
 use Rattle.mesh_balance_spec.specs.Soup.{Tri, mapTri}
 use Rattle.mesh_balance_spec.specs.Buffer.{tris}
 use Rattle.mesh_spec.specs.Mesh.{Mesh}
 use Rattle.mesh_spec.specs.Slices.{points, vertexAt}
 use Rattle.mesh_spec.specs.SliceLaws.{length-tris}
-use Rattle.mesh_spec.specs.Measures.{triangleSoup, sumOf, including, plusZeroBox, boundingBox}
+use Rattle.mesh_spec.specs.Measures.{triangleSoup, sumOf, boundingBox}
 use Rattle.refusal.specs.declared.Refusal.{Refusal}
 use Rattle.mesh_measures.specs.declared.Measured.{Measured}
-use Rattle.mesh_measures.specs.declared.Boxed.{Boxed}
+use Rattle.mesh_check.specs.declared.Boxed.{Boxed}
 use Rattle.refusal.specs.Number.{numberOf}
 use Rattle.refusal.specs.Accepted.{isAccepted}
-use Rattle.mesh_check.specs.State.{State, meshOf, checkOf, Sound}
+use Rattle.mesh_check.specs.State.{State, meshOf, checkOf, boxedWith, Sound}
 use Rattle.mesh_triples.specs.Triples.{tripleAt, cornersOf, AllWithin}
 use Rattle.mesh_measures.specs.Measures.{measureOf, GivesMeasure, boundingBoxOf, GivesBox}
 use Rattle.slice_law.specs.Next.{getD-next}
 use Rattle.mesh_triples.proofs.NextTriples.{next-counted, next-points}
-use Rattle.mesh_box.specs.ZeroBox.{zeroBox}
 
 -- ---- the corners
 map-agree : {A B : Type 0} (f g : A → B) (d : A) (l : List A) → ((i : ℕ) → i < length l → f (getD l i d) ≡ g (getD l i d)) → map f l ≡ map g l
@@ -89,14 +87,6 @@ module _ (f : Mesh → Float) (s : State) (r : Refusal) (e : r ≡ checkOf s) wh
       gives-measure (measureOf f s) (record { refusal = r; bits = b })
       ((λ j. record { refusal = e j; bits = (w ∙ ap {B = ℕ} (toBits binary64) v) j }) ∙ sym (rw (sym (ap {B = Bool} isAccepted e) ∙ h)))
 
-module _ (s : State) (r : Refusal) (e : r ≡ checkOf s) where
-  pub box-refused : (z : BoundingBox) → isAccepted r ≡ false → z ≡ zeroBox → GivesBox (boundingBoxOf s) (record { refusal = r; bounds = z })
-  unfolding boundingBoxOf
-  box-refused z h w = gives-box (boundingBoxOf s) (record { refusal = r; bounds = z }) ((λ j. record { refusal = e j; bounds = w j }) ∙ sym (rw (sym (ap {B = Bool} isAccepted e) ∙ h)))
-
-  pub box-done : (b c : BoundingBox) → isAccepted r ≡ true → b ≡ including emptyBox (points (take (3 * s .mesh .vertices) (s .vertices))) → c ≡ plusZeroBox b
-      → GivesBox (boundingBoxOf s) (record { refusal = r; bounds = c })
-  unfolding boundingBoxOf boundingBox meshOf
-  box-done b c h v w =
-      gives-box (boundingBoxOf s) (record { refusal = r; bounds = c })
-      ((λ j. record { refusal = e j; bounds = (w ∙ ap {B = BoundingBox} plusZeroBox v) j }) ∙ sym (rw (sym (ap {B = Bool} isAccepted e) ∙ h)))
+pub box-answered : (s : State) (r : Boxed) → r ≡ boxedWith (checkOf s) (boundingBox (meshOf s)) → GivesBox (boundingBoxOf s) r
+unfolding boundingBoxOf
+box-answered s r e = gives-box (boundingBoxOf s) r e

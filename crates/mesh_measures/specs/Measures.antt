@@ -1,15 +1,14 @@
--- The measures of a mesh in lent slices, with refusals 8 and 1 of docs/SCOPE.md. A refused measure answers zeros. Definitions only.
+-- The measures of a mesh in lent slices, with refusals 8 and 1 of docs/SCOPE.md, and 8 for the box. A refused measure answers zeros. Definitions only.
 use mathlib.Core.Path.{_≡_}
 use mathlib.Core.Bool.{cond}
 use lib.Ieee.{Float, binary64, toBits}
 use Rattle.mesh_spec.specs.Mesh.{Mesh}
 use Rattle.mesh_spec.specs.Measures.{signedVolume, area, enclosedVolume, boundingBox}
-use Rattle.mesh_box.specs.ZeroBox.{zeroBox}
 use Rattle.mesh_measures.specs.declared.Measured.{Measured}
-use Rattle.mesh_measures.specs.declared.Boxed.{Boxed}
+use Rattle.mesh_check.specs.declared.Boxed.{Boxed}
 use Rattle.refusal.specs.Number.{numberOf}
 use Rattle.refusal.specs.Accepted.{isAccepted}
-use Rattle.mesh_check.specs.State.{State, meshOf, checkOf}
+use Rattle.mesh_check.specs.State.{State, meshOf, checkOf, boxedWith}
 
 -- an area or volume is answered as its bits; a NaN's are 7FF8000000000000
 unfoldable pub measureOf : (Mesh → Float) → State → Measured
@@ -39,4 +38,5 @@ pub record GivesBox (o r : Boxed) : Type 0 where
 
 -- `bounding_box`
 unfoldable pub boundingBoxOf : State → Boxed
-boundingBoxOf s = record { refusal = checkOf s; bounds = cond (isAccepted (checkOf s)) (boundingBox (meshOf s)) zeroBox }
+unfolding boxedWith
+boundingBoxOf s = boxedWith (checkOf s) (boundingBox (meshOf s))

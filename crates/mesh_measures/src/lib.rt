@@ -1,7 +1,7 @@
 // The measures of a mesh in lent slices. Each checks the mesh first. They change nothing.
 ghost use Rattle.mesh_check.specs.State.{state};
 ghost use Rattle.mesh_measures.specs.Measures.{GivesMeasure, GivesBox, signedVolumeOf, areaOf, enclosedVolumeOf, boundingBoxOf};
-use math::BoundingBox;
+use mesh_check::Boxed;
 use mesh_check::TriMesh;
 use refusal::Refusal;
 
@@ -11,18 +11,13 @@ pub struct Measured {
     pub bits: u64,
 }
 
-// What bounding_box answers: refused or accepted, and the box, all zero where it was refused.
-pub struct Boxed {
-    pub refusal: Refusal,
-    pub bounds: BoundingBox,
-}
-
 // The volume that the triangles enclose, positive where they are counter-clockwise seen from outside.
 pub fn signed_volume(mesh: TriMesh, vertices: &[f64], triangles: &[u32]) -> Measured
     ensures { λ r. ⌜ GivesMeasure (signedVolumeOf (state mesh (now (vertices .entry)) (now (triangles .entry)))) r ⌝ }
 {
     let k = mesh.triangles;
-    let refusal = mesh_check::check(mesh, vertices, triangles);
+    let checked = mesh_check::check(mesh, vertices, triangles);
+    let refusal = checked.refusal;
     if !refusal::is_accepted(refusal) {
         return Measured { refusal, bits: 0 };
     }
@@ -38,7 +33,8 @@ pub fn enclosed_volume(mesh: TriMesh, vertices: &[f64], triangles: &[u32]) -> Me
     ensures { λ r. ⌜ GivesMeasure (enclosedVolumeOf (state mesh (now (vertices .entry)) (now (triangles .entry)))) r ⌝ }
 {
     let k = mesh.triangles;
-    let refusal = mesh_check::check(mesh, vertices, triangles);
+    let checked = mesh_check::check(mesh, vertices, triangles);
+    let refusal = checked.refusal;
     if !refusal::is_accepted(refusal) {
         return Measured { refusal, bits: 0 };
     }
@@ -54,7 +50,8 @@ pub fn area(mesh: TriMesh, vertices: &[f64], triangles: &[u32]) -> Measured
     ensures { λ r. ⌜ GivesMeasure (areaOf (state mesh (now (vertices .entry)) (now (triangles .entry)))) r ⌝ }
 {
     let k = mesh.triangles;
-    let refusal = mesh_check::check(mesh, vertices, triangles);
+    let checked = mesh_check::check(mesh, vertices, triangles);
+    let refusal = checked.refusal;
     if !refusal::is_accepted(refusal) {
         return Measured { refusal, bits: 0 };
     }
@@ -65,20 +62,9 @@ pub fn area(mesh: TriMesh, vertices: &[f64], triangles: &[u32]) -> Measured
     }
 }
 
-// The box of the vertices.
+// The box of the vertices, all zero where the mesh is refused. The checks find it.
 pub fn bounding_box(mesh: TriMesh, vertices: &[f64], triangles: &[u32]) -> Boxed
     ensures { λ r. ⌜ GivesBox (boundingBoxOf (state mesh (now (vertices .entry)) (now (triangles .entry)))) r ⌝ }
 {
-    let n = mesh.vertices;
-    let refusal = mesh_check::check(mesh, vertices, triangles);
-    if !refusal::is_accepted(refusal) {
-        return Boxed {
-            refusal,
-            bounds: mesh_box::zero_box(),
-        };
-    }
-    Boxed {
-        refusal,
-        bounds: mesh_box::plus_zero(mesh_box::box_of(vertices, n)),
-    }
+    mesh_check::check(mesh, vertices, triangles)
 }

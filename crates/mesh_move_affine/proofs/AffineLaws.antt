@@ -18,11 +18,11 @@ use Rattle.math_matrix.specs.Mat.{entry, rowOf, along, overW, transformPoint}
 use Rattle.slice_law.specs.Bools.{and-left, and-right, and-both}
 use Rattle.slice.specs.Every.{every}
 use Rattle.mesh_spec.specs.Decides.{Decides}
-use Rattle.mesh_spec.specs.Slices.{vecOf, vertexAt}
+use Rattle.mesh_spec.specs.Slices.{vertexAt}
 use Rattle.mesh_triples.specs.Triples.{eachTo, movedTriple}
 use Rattle.mesh_move_affine.specs.Affine.{Affine, affinePoint, Movable}
 use Rattle.slice.specs.EveryLaws.{every-at}
-use Rattle.mesh_triples.proofs.Each.{each-read}
+use Rattle.mesh_move_affine.proofs.Gathering.{unmoved}
 
 -- ---- the tests of the last row
 is-zero : (x : Float) → fits binary64 x ≡ true → eq x plusZero ≡ true → T (isZero x)
@@ -112,5 +112,4 @@ affine-vertex vs n a m i h =
 pub affine-moved : (vs : List Float) (n : ℕ) (a : Mat4) → Movable vs n a → (i : ℕ) → i < n → (out : List Float) → out ≡ eachTo (movedTriple a) i vs
     → affinePoint a (vertexAt out i) ≡ transformPoint a (vertexAt out i)
 affine-moved vs n a m i h out e =
-    let q : vertexAt out i ≡ vertexAt vs i = ap {B = Vec3} (λ (o : List Float). vertexAt o i) e ∙ ap {B = Vec3} vecOf (each-read (movedTriple a) vs i nan (omega (arith, m .vertices .within))) in
-    subst (λ (p : Vec3). affinePoint a p ≡ transformPoint a p) (sym q) (affine-vertex vs n a m i h)
+    subst (λ (p : Vec3). affinePoint a p ≡ transformPoint a p) (sym (unmoved a vs i out (omega (arith, m .vertices .within)) e)) (affine-vertex vs n a m i h)

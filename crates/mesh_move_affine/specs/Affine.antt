@@ -1,7 +1,7 @@
 -- A matrix that ends with the row 0 0 0 1 moves a finite point without a division. Definitions only.
 use mathlib.Core.Path.{_≡_}
 use mathlib.Core.Bool.{Bool, true}
-use mathlib.Core.List.{List}
+use mathlib.Core.List.{List, map}
 use Prim.Native.Nat.{ℕ, _*_, _≤_, _<_}
 use lib.ListN.{length, take}
 use lib.Dec.{T}
@@ -9,9 +9,13 @@ use lib.Ieee.{Float}
 use lib.Ieee.Scale.{finite}
 use Rattle.ieee.specs.Number.{isZero}
 use Rattle.math.specs.declared.Vec3.{Vec3}
+use Rattle.math.specs.declared.BoundingBox.{BoundingBox}
 use Rattle.math_matrix.specs.declared.Mat4.{Mat4}
 use Rattle.math.specs.Vec.{one, new}
-use Rattle.math_matrix.specs.Mat.{entry, rowOf, along}
+use Rattle.math_matrix.specs.Mat.{entry, rowOf, along, transformPoint}
+use Rattle.mesh_spec.specs.Slices.{points}
+use Rattle.mesh_spec.specs.Measures.{boxOf}
+use Rattle.mesh_triples.specs.Triples.{eachTo, movedTriple}
 use Rattle.slice.specs.Every.{every}
 use Rattle.slice_bounded.specs.Bounded.{isBounded}
 
@@ -36,6 +40,11 @@ pub record FiniteVertices (vs : List Float) (n : ℕ) : Type 0 where
 pub record Movable (vs : List Float) (n : ℕ) (a : Mat4) : Type 0 where
   pub vertices : FiniteVertices vs n
   pub affine : Affine a
+
+-- the first n vertices of the slice vs put under a matrix: the slice after it, and r, the box of these vertices after it
+pub record MovesTo (a : Mat4) (n : ℕ) (vs : List Float) (r : BoundingBox) (vs' : List Float) : Type 0 where
+  pub vertices : vs' ≡ eachTo (movedTriple a) n vs
+  pub bounds : r ≡ boxOf (map (transformPoint a) (points (take (3 * n) vs)))
 
 -- the entries of the first three rows lie from -2^400 to 2^400
 abbrev pub RowsWithin : Mat4 → Type 0

@@ -1,4 +1,4 @@
-// The vertices under a matrix that ends with the row 0 0 0 1: no division, so that several are moved at once.
+// The vertices under a matrix that ends with the row 0 0 0 1, which takes no division.
 ghost use mathlib.Core.Path.{_≡_};
 ghost use mathlib.Core.List.{map};
 ghost use Prim.Native.Nat.{_*_};
@@ -9,12 +9,12 @@ ghost use Rattle.math_matrix.specs.Mat.{transformPoint};
 ghost use Rattle.mesh_spec.specs.Decides.{Decides};
 ghost use Rattle.mesh_spec.specs.Slices.{points};
 ghost use Rattle.slice.specs.Every.{every};
-ghost use Rattle.mesh_triples.specs.Triples.{eachTo, movedTriple};
-ghost use Rattle.mesh_move_affine.specs.Affine.{Affine, affinePoint, Movable};
+ghost use Rattle.mesh_move_affine.specs.Affine.{Affine, affinePoint, Movable, MovesTo};
 
 mod bounds;
 
 pub use bounds::is_bounded;
+use math::BoundingBox;
 use math::Vec3;
 use math_matrix::Mat4;
 use mesh_triples::put_vertex;
@@ -68,15 +68,19 @@ pub fn stay_finite(vertices: &[f64], n: usize, a: Mat4) -> bool
     ok
 }
 
-// Puts the first n vertices under the matrix.
-pub fn move_all(vertices: &mut [f64], n: usize, a: Mat4)
+// Puts the first n vertices under the matrix, and answers their box after it.
+pub fn move_all(vertices: &mut [f64], n: usize, a: Mat4) -> BoundingBox
     requires { ⌜ Movable (now vertices) n a ⌝ }
-    ensures { λ _. ⌜ now (vertices .exit) ≡ eachTo (movedTriple a) n (now (vertices .entry)) ⌝ }
+    ensures { λ r. ⌜ MovesTo a n (now (vertices .entry)) r (now (vertices .exit)) ⌝ }
 {
+    let mut b = math_box::empty_box();
     let mut i = 0;
     while i < n {
-        let p = affine_point(a, vertex(vertices, i));
+        let v = vertex(vertices, i);
+        let p = affine_point(a, v);
         put_vertex(vertices, i, p);
+        b = math_box::include(b, p);
         i += 1;
     }
+    mesh_box::plus_zero(b)
 }

@@ -1,4 +1,6 @@
--- `signed_volume`, `area` and `bounding_box` of `impl TriMesh` in src/tessellate.rs, and docs/SCOPE.md's enclosed volume. Sums start at +0.0. Definitions only.
+-- `signed_volume`, `area` and `bounding_box` of `impl TriMesh` in src/tessellate.rs, docs/SCOPE.md's enclosed volume, and when two boxes are equal.
+-- Sums start at +0.0. Definitions only.
+use mathlib.Core.Bool.{Bool, _&&_}
 use mathlib.Core.List.{List, [], _∷_, map}
 use lib.IntN.{pos}
 use lib.ListN.{getD}
@@ -9,7 +11,7 @@ use Rattle.math.specs.declared.BoundingBox.{BoundingBox}
 use Rattle.math.specs.Vec.{zeroV, vSub, dot, cross, norm}
 use Rattle.math.specs.Box.{emptyBox, include}
 use Rattle.mesh_balance_spec.specs.Soup.{Tri, mapTri}
-use Rattle.mesh_spec.specs.Mesh.{Mesh, plusZeroV}
+use Rattle.mesh_spec.specs.Mesh.{Mesh, plusZeroV, samePoint}
 
 -- TriMesh::triangle_soup: `self.vertices[i]` for each number of each triangle
 unfoldable pub triangleSoup : Mesh → List (Tri Vec3)
@@ -53,7 +55,17 @@ unfoldable pub plusZeroBox : BoundingBox → BoundingBox
 unfolding plusZeroV
 plusZeroBox b = record { min = plusZeroV (b .min); max = plusZeroV (b .max) }
 
+-- BoundingBox::from_points, from the empty box on; a bound of zero is +0.0
+unfoldable pub boxOf : List Vec3 → BoundingBox
+unfolding including plusZeroBox
+boxOf ps = plusZeroBox (including emptyBox ps)
+
 -- TriMesh::bounding_box
 unfoldable pub boundingBox : Mesh → BoundingBox
-unfolding including plusZeroBox
-boundingBox m = plusZeroBox (including emptyBox (m .vertices))
+unfolding boxOf
+boundingBox m = boxOf (m .vertices)
+
+-- equal bounds, as floats compare: −0.0 equals 0.0, and a NaN equals nothing
+unfoldable pub sameBox : BoundingBox → BoundingBox → Bool
+unfolding samePoint
+sameBox a b = samePoint (a .min) (b .min) && samePoint (a .max) (b .max)

@@ -26,7 +26,7 @@ plusZeroV p = record {
   z = add binary64 (p .z) (ofBits binary64 0);
 }
 
--- equal coordinates. After + 0.0, finite floats are equal exactly where their bits are, which is the Rust's key.
+-- equal coordinates, as floats compare. In welding: after + 0.0, finite floats are equal exactly where their bits are, which is the Rust's key.
 unfoldable pub samePoint : Vec3 → Vec3 → Bool
 samePoint p q = eq (p .x) (q .x) && eq (p .y) (q .y) && eq (p .z) (q .z)
 

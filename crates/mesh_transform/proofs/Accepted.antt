@@ -12,7 +12,7 @@ use Rattle.refusal.specs.declared.Refusal.{Refusal}
 use Rattle.refusal.specs.declared.Refusal.the-variants.{Accepted, NotFinite, AngleTooLarge, BadList, PointNotFinite, BadMesh}
 use Rattle.slice.specs.Every.{every}
 use Rattle.refusal.specs.Accepted.{isAccepted}
-use Rattle.mesh_check.specs.State.{State, meshOf, badMesh, notFinite, Sound}
+use Rattle.mesh_check.specs.State.{State, meshOf, badMesh, notFinite, badBox, Sound}
 use Rattle.mesh_move_affine.specs.Affine.{FiniteVertices}
 use Rattle.mesh_check_transform.specs.Transform.{transformed, transformRefusal}
 use Rattle.slice_law.specs.Bools.{neither}
@@ -25,12 +25,13 @@ third false false true q e = absurd (false≢true e)
 third false false false q e = refl
 
 module _ (s : State) where
-  -- what a transform tests after 8, 4 and 1
+  -- what a transform tests after 8, 4 and 1: the box, 2 and 5
   abbrev after : List TransformOp → ℕ → Bool → Refusal
   after ops count degrees =
-      cond (not (opsAnglesWithin degrees (take count ops))) AngleTooLarge
+      cond (badBox s) BadMesh
+      (cond (not (opsAnglesWithin degrees (take count ops))) AngleTooLarge
       (cond (eqb count 0) Accepted
-      (cond (every vFinite (transformed ops count degrees (meshOf s) .vertices)) Accepted PointNotFinite))
+      (cond (every vFinite (transformed ops count degrees (meshOf s) .vertices)) Accepted PointNotFinite)))
 
   module _ (ops : List TransformOp) (count : ℕ) (degrees : Bool) (r : Refusal) (e : r ≡ transformRefusal ops count degrees s) (h : isAccepted r ≡ true) where
     abbrev bad-op : Bool

@@ -34,6 +34,9 @@ pub fn transform(
         return Edited { refusal, mesh };
     }
     let a = transform::fold(ops, op_count, degrees);
-    mesh_move::move_mesh(mesh, vertices, triangles, a, true);
-    Edited { refusal, mesh }
+    let after = mesh_move::move_mesh(mesh, vertices, triangles, a, true);
+    Edited {
+        refusal,
+        mesh: after,
+    }
 }

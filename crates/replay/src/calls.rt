@@ -122,7 +122,7 @@ fn load_both(h: Head, vertices: &mut [f64], triangles: &mut [u32]) -> bool {
     load_words(triangles, wide(h.loaded_numbers))
 }
 
-// Loads a mesh from the input, with the counts claimed.
+// Loads a mesh from the input, with the counts and the box claimed.
 pub(crate) fn load(h: Head, vertices: &mut [f64], triangles: &mut [u32]) -> Answer
     ensures { λ r. ⌜ r .mesh ≡ claimed h ⌝ }
 {

@@ -52,6 +52,14 @@ pub(crate) fn floats(v: &[f64]) -> bool {
     true
 }
 
+// Writes the bounds of a box: least x, y, z, then greatest x, y, z.
+pub(crate) fn bounds(b: BoundingBox) -> bool {
+    let low = b.min;
+    let high = b.max;
+    let six = [low.x, low.y, low.z, high.x, high.y, high.z];
+    floats(&six)
+}
+
 // Writes the first numbers of v, as many as buf holds at once. It answers how many: 0 where they were not written.
 fn words_block(v: &[u32], buf: &mut [u8]) -> usize
     ensures { λ r. ⌜ r ≤ length (now (v .entry)) ⌝ }

@@ -2,9 +2,9 @@
 use crate::input;
 use replay_head::Case;
 
-// The case of the next 128 bytes.
+// The case of the next 144 bytes.
 fn read_head() -> Case {
-    let mut b = [0u8; 128];
+    let mut b = [0u8; 144];
     if input::fill(&mut b) {
         replay_head::case_of(&b)
     } else {

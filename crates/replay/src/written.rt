@@ -4,15 +4,19 @@ use crate::output;
 use mesh::Edited;
 use replay_calls::Answer;
 
-// The answer of an edit: refusal, counts and both slices.
+// The answer of an edit: refusal, counts, bounds and both slices.
 pub(crate) fn edited(e: Edited, vertices: &[f64], triangles: &[u32]) -> bool {
     let m = e.mesh;
     let why = e.refusal;
+    let bounds = m.bounds;
     if !output::three_words(
         refusal::number(why),
         output::count(m.vertices),
         output::count(m.triangles),
     ) {
+        return false;
+    }
+    if !output::bounds(bounds) {
         return false;
     }
     if !output::floats(vertices) {

@@ -3,14 +3,14 @@ use mathlib.Core.Bool.{Bool, true}
 use Prim.Native.Nat.{ℕ}
 use Rattle.replay_format.specs.declared.head.Head.{Head}
 use Rattle.mesh_check.specs.declared.TriMesh.{TriMesh}
-use Rattle.mesh_check.specs.State.{recordOf}
+use Rattle.mesh_check.specs.State.{recordOf, emptyRecord}
 use Rattle.replay_calls.specs.declared.session.Answer.{Answer}
 use Rattle.replay_calls.specs.declared.session.Held.{Held}
 use Rattle.replay_calls.specs.declared.session.Session.{Session}
 
--- a mesh with no vertices, in slices of no places
+-- a mesh with no vertices and the empty box, in slices of no places
 abbrev pub noMesh : Held
-noMesh = record { mesh = recordOf 0 0; floats = 0; numbers = 0 }
+noMesh = record { mesh = emptyRecord; floats = 0; numbers = 0 }
 
 -- two empty meshes, before the first call
 abbrev pub beginning : Session
@@ -28,6 +28,6 @@ exchanged s = record { a = s .b; b = s .a; going = s .going }
 abbrev pub afterCall : Session → Answer → ℕ → ℕ → Session
 afterCall s r floats numbers = record { a = record { mesh = r .mesh; floats = floats; numbers = numbers }; b = s .b; going = r .written }
 
--- the counts that a case claims for the mesh that it loads
+-- the counts and the box that a case claims for the mesh that it loads
 abbrev pub claimed : Head → TriMesh
-claimed h = recordOf (h .«vertex_count») (h .«triangle_count»)
+claimed h = recordOf (h .«vertex_count») (h .«triangle_count») (h .bounds)

@@ -6,13 +6,13 @@ use mesh_check::TriMesh;
 use replay_format::Head;
 use slice::wide;
 
-// The counts of A after a call, and whether its result was written.
+// The record of A after a call, and whether its result was written.
 pub struct Answer {
     pub mesh: TriMesh,
     pub written: bool,
 }
 
-// A mesh as lent: its counts, and the lengths of its two slices.
+// A mesh as lent: its record, and the lengths of its two slices.
 pub struct Held {
     pub mesh: TriMesh,
     pub floats: usize,
@@ -30,7 +30,7 @@ fn empty() -> Held
     ensures { λ r. ⌜ r ≡ noMesh ⌝ }
 {
     Held {
-        mesh: mesh_check::record_of(0, 0),
+        mesh: mesh_check::empty_record(),
         floats: 0,
         numbers: 0,
     }
@@ -79,9 +79,10 @@ pub fn after(s: Session, r: Answer, floats: usize, numbers: usize) -> Session
     }
 }
 
-// The counts that a case claims.
+// The counts and the box that a case claims.
 pub fn claimed_mesh(h: Head) -> TriMesh
     ensures { λ r. ⌜ r ≡ claimed h ⌝ }
 {
-    mesh_check::record_of(wide(h.vertex_count), wide(h.triangle_count))
+    let bounds = h.bounds;
+    mesh_check::record_of(wide(h.vertex_count), wide(h.triangle_count), bounds)
 }

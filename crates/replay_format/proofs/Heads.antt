@@ -1,14 +1,15 @@
--- A head whose words are those of the bytes. Assumes nothing.
+-- A head whose words and box are those of the bytes. Assumes nothing.
 use mathlib.Core.Path.{_≡_}
 use mathlib.Core.List.{List}
 use Prim.Native.Nat.{ℕ}
 use lib.ListN.{getD}
+use Rattle.math.specs.declared.BoundingBox.{BoundingBox}
 use Rattle.replay_format.specs.declared.head.Head.{Head}
 use Rattle.slice_bytes.specs.Bytes.{wordAt}
-use Rattle.replay_format.specs.Layout.{headOf}
+use Rattle.replay_format.specs.Layout.{boundsOf, headOf}
 
-abbrev withWords : List ℕ → ℕ → ℕ → ℕ → ℕ → ℕ → ℕ → ℕ → ℕ → ℕ → ℕ → Head
-withWords b w0 w1 w2 w3 w4 w5 w6 w7 w8 w9 =
+abbrev withWords : List ℕ → ℕ → ℕ → ℕ → ℕ → ℕ → ℕ → ℕ → ℕ → ℕ → ℕ → BoundingBox → Head
+withWords b w0 w1 w2 w3 w4 w5 w6 w7 w8 w9 u =
     record {
       what = getD b 0 0;
       shape = getD b 1 0;
@@ -27,9 +28,10 @@ withWords b w0 w1 w2 w3 w4 w5 w6 w7 w8 w9 =
       «loaded_numbers» = w7;
       «vertex_count» = w8;
       «triangle_count» = w9;
+      bounds = u;
     }
 
-pub head-is : (b : List ℕ) {w0 w1 w2 w3 w4 w5 w6 w7 w8 w9 : ℕ}
+pub head-is : (b : List ℕ) {w0 w1 w2 w3 w4 w5 w6 w7 w8 w9 : ℕ} {u : BoundingBox}
     → w0 ≡ wordAt b 8
     → w1 ≡ wordAt b 12
     → w2 ≡ wordAt b 16
@@ -40,7 +42,8 @@ pub head-is : (b : List ℕ) {w0 w1 w2 w3 w4 w5 w6 w7 w8 w9 : ℕ}
     → w7 ≡ wordAt b 36
     → w8 ≡ wordAt b 40
     → w9 ≡ wordAt b 44
-    → withWords b w0 w1 w2 w3 w4 w5 w6 w7 w8 w9 ≡ headOf b
+    → u ≡ boundsOf b
+    → withWords b w0 w1 w2 w3 w4 w5 w6 w7 w8 w9 u ≡ headOf b
 unfolding headOf
-head-is b e0 e1 e2 e3 e4 e5 e6 e7 e8 e9 i =
-    withWords b (e0 i) (e1 i) (e2 i) (e3 i) (e4 i) (e5 i) (e6 i) (e7 i) (e8 i) (e9 i)
+head-is b e0 e1 e2 e3 e4 e5 e6 e7 e8 e9 e i =
+    withWords b (e0 i) (e1 i) (e2 i) (e3 i) (e4 i) (e5 i) (e6 i) (e7 i) (e8 i) (e9 i) (e i)

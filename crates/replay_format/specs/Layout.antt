@@ -5,11 +5,20 @@ use Prim.Native.Nat.{ℕ, _+_}
 use lib.Dec.{eqb}
 use lib.ListN.{getD}
 use Rattle.math.specs.declared.Vec3.{Vec3}
+use Rattle.math.specs.declared.BoundingBox.{BoundingBox}
 use Rattle.math_matrix.specs.declared.Row.{Row}
 use Rattle.transform.specs.declared.TransformOp.{TransformOp}
 use Rattle.transform.specs.declared.TransformOp.the-variants.{Translate, RotateOrigin, RotateX, RotateY, RotateZ, Scale, Scale3, Matrix}
 use Rattle.replay_format.specs.declared.head.Head.{Head}
 use Rattle.slice_bytes.specs.Bytes.{wordAt, floatAt}
+
+-- three floats from a place on
+abbrev pub vecAt : List ℕ → ℕ → Vec3
+vecAt b at = record { x = floatAt b at; y = floatAt b (at + 8); z = floatAt b (at + 16) }
+
+-- the box of six floats from byte 48 on: least x, y, z, then greatest x, y, z
+abbrev pub boundsOf : List ℕ → BoundingBox
+boundsOf b = record { min = vecAt b 48; max = vecAt b 72 }
 
 -- the head of a case
 unfoldable pub headOf : List ℕ → Head
@@ -32,11 +41,8 @@ headOf b =
       «loaded_numbers» = wordAt b 36;
       «vertex_count» = wordAt b 40;
       «triangle_count» = wordAt b 44;
+      bounds = boundsOf b;
     }
-
--- three floats from a place on
-abbrev pub vecAt : List ℕ → ℕ → Vec3
-vecAt b at = record { x = floatAt b at; y = floatAt b (at + 8); z = floatAt b (at + 16) }
 
 -- four floats from a place on
 abbrev pub rowAt : List ℕ → ℕ → Row

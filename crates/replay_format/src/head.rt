@@ -1,8 +1,11 @@
-// The head of a case: its first 48 bytes. The shape's numbers follow at 48.
+// The head of a case: its first 144 bytes. From byte 48 on stand the shape's numbers or, where a mesh is loaded, the box claimed for it.
+// Bytes 128 to 143 are not read.
 ghost use mathlib.Core.Path.{_≡_};
 ghost use Prim.Native.Nat.{_≤_};
 ghost use lib.ListN.{length};
-ghost use Rattle.replay_format.specs.Layout.{headOf};
+ghost use Rattle.replay_format.specs.Layout.{boundsOf, headOf};
+use crate::ops::vec_at;
+use math::BoundingBox;
 
 pub struct Head {
     pub what: u8,
@@ -22,11 +25,23 @@ pub struct Head {
     pub loaded_numbers: u32,
     pub vertex_count: u32,
     pub triangle_count: u32,
+    pub bounds: BoundingBox,
 }
 
-// The head of a case, from its first 128 bytes.
+// The box of six floats from place 48 on: least x, y, z, then greatest x, y, z. A case other than a load has its shape's numbers there.
+fn bounds_of(b: &[u8]) -> BoundingBox
+    requires { ⌜ 96 ≤ length (now b) ⌝ }
+    ensures { λ r. ⌜ r ≡ boundsOf (now (b .entry)) ⌝ }
+{
+    BoundingBox {
+        min: vec_at(b, 48),
+        max: vec_at(b, 72),
+    }
+}
+
+// The head of a case, from its first 144 bytes.
 pub fn head_of(b: &[u8]) -> Head
-    requires { ⌜ 128 ≤ length (now b) ⌝ }
+    requires { ⌜ 144 ≤ length (now b) ⌝ }
     ensures { λ r. ⌜ r ≡ headOf (now (b .entry)) ⌝ }
 {
     Head {
@@ -47,5 +62,6 @@ pub fn head_of(b: &[u8]) -> Head
         loaded_numbers: slice_bytes::word_at(b, 36),
         vertex_count: slice_bytes::word_at(b, 40),
         triangle_count: slice_bytes::word_at(b, 44),
+        bounds: bounds_of(b),
     }
 }

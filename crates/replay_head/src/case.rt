@@ -15,8 +15,8 @@ pub struct Case {
     pub shape: Shape,
 }
 
-// The case of a head's 128 bytes.
-pub fn case_of(b: &[u8; 128]) -> Case
+// The case of a head's 144 bytes.
+pub fn case_of(b: &[u8; 144]) -> Case
     ensures { λ r. ⌜ r ≡ caseOf (now (b .entry)) ⌝ }
 {
     let h = replay_format::head_of(b);
@@ -27,9 +27,9 @@ pub fn case_of(b: &[u8; 128]) -> Case
 }
 
 pub fn none() -> Case
-    ensures { λ r. ⌜ r ≡ caseOf (replicate 128 0) ⌝ }
+    ensures { λ r. ⌜ r ≡ caseOf (replicate 144 0) ⌝ }
 {
-    let zeros = [0u8; 128];
+    let zeros = [0u8; 144];
     case_of(&zeros)
 }
 

@@ -9,7 +9,8 @@ use Rattle.mesh_spec.specs.Mesh.{Mesh, flip}
 use Rattle.mesh_spec.specs.Closed.{AllThere}
 use Rattle.mesh_spec.specs.ProperLaws.{flip-all-there}
 use Rattle.mesh_spec.specs.Measures.{signedVolume, sumOf, volumeTerm}
-use Rattle.mesh_check.specs.State.{State, state, meshOf, stored, Sound}
+use Rattle.mesh_check.specs.State.{recordOf, State, state, meshOf, stored, Sound}
+use Rattle.mesh_check.specs.Places.{Recorded}
 use Rattle.mesh_triples.specs.Triples.{eachTo, cornersOf}
 use Rattle.mesh_check.proofs.Stored.{stored-flip}
 use Rattle.mesh_measures.proofs.Readings.{sum-is}
@@ -39,7 +40,10 @@ unfolding outward
 outward-stays m e = rw e
 
 -- ---- the two ends of `turn_outward`
-module _ (s : State) (ok : Sound s) (sum : Float) (is : sum ≡ sumOf volumeTerm (ofBits binary64 0) (cornersOf (s .vertices) (s .triangles) (s .mesh .triangles))) where
+module _ (s : State) (r : Recorded s) (sum : Float) (is : sum ≡ sumOf volumeTerm (ofBits binary64 0) (cornersOf (s .vertices) (s .triangles) (s .mesh .triangles))) where
+  abbrev ok : Sound s
+  ok = r .sound
+
   volume-test : (b : Bool) → lt (div binary64 sum (ofBits binary64 0x4018000000000000)) (ofBits binary64 0) ≡ b → lt (signedVolume (meshOf s)) (ofBits binary64 0) ≡ b
   volume-test b e =
       sym (ap {B = Bool} (λ (x : Float). lt x (ofBits binary64 0)) (volume-is (meshOf s) sum (sum-is s ok volumeTerm (ofBits binary64 0) sum is)))
@@ -48,9 +52,9 @@ module _ (s : State) (ok : Sound s) (sum : Float) (is : sum ≡ sumOf volumeTerm
   pub outward-turned : (ts : List ℕ) → lt (div binary64 sum (ofBits binary64 0x4018000000000000)) (ofBits binary64 0) ≡ true → ts ≡ eachTo flipTri (s .mesh .triangles) (s .triangles)
       → state (s .mesh) (s .vertices) ts ≡ stored (outward (meshOf s)) s
   outward-turned ts e t =
-      ap {B = State} (λ (l : List ℕ). state (s .mesh) (s .vertices) l) t
+      (λ j. state (recordOf (s .mesh .vertices) (s .mesh .triangles) (r .bounds j)) (s .vertices) (t j))
       ∙ sym (stored-flip s ok)
       ∙ sym (ap {B = State} (λ (m : Mesh). stored m s) (outward-flips (meshOf s) (volume-test true e)))
 
   pub outward-kept : lt (div binary64 sum (ofBits binary64 0x4018000000000000)) (ofBits binary64 0) ≡ false → s ≡ stored (outward (meshOf s)) s
-  outward-kept e = stored-self s ok ∙ sym (ap {B = State} (λ (m : Mesh). stored m s) (outward-stays (meshOf s) (volume-test false e)))
+  outward-kept e = stored-self s r ∙ sym (ap {B = State} (λ (m : Mesh). stored m s) (outward-stays (meshOf s) (volume-test false e)))

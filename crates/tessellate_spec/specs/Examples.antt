@@ -9,6 +9,7 @@ use lib.Ieee.{Float, nan, binary64, add, sub, mul, div, neg, ofInt, ofBits, eq, 
 use Rattle.ieee.specs.Number.{minimum, maximum, absolute}
 use Rattle.math.specs.declared.Vec3.{Vec3}
 use Rattle.math.specs.Vec.{new, vMin, vMax, vFinite}
+use Rattle.math.specs.Box.{emptyBox, include}
 use Rattle.math_matrix.specs.Mat.{fromRows, identity, scaling, timesRows, productRow, product, along, overW, transformPoint, detRows, determinant}
 use Rattle.refusal.specs.declared.Refusal.the-variants.{Accepted, NotFinite, AngleTooLarge, TooManySegments, BadList, PointNotFinite, ShortWork, NoRoom}
 use Rattle.transform.specs.declared.TransformOp.{TransformOp}
@@ -19,6 +20,7 @@ use Rattle.transform.specs.Checks.{opFinite, opsFinite, opAngleWithin, opsAngle
 use Rattle.mesh_spec.specs.Mesh.{plusZeroV, samePoint, firstSight, withPoint, weldTriangle, weldSoup, fromSoup, everyFinite, append, flip, appendParts}
 use Rattle.mesh_spec.specs.Mesh.{fromParts}
 use Rattle.mesh_spec.specs.Edits.{moved, transform}
+use Rattle.mesh_spec.specs.Measures.{including, plusZeroBox, boxOf, boundingBox}
 use Rattle.solid_spec.specs.Grid.{grid}
 use Rattle.solid_spec.specs.ParamBox.{coord, face, faces, paramBox}
 use Rattle.solid_spec.specs.Boxes.{boxShape, multiBoxParts}
@@ -32,7 +34,7 @@ use Rattle.shape.specs.Drawing.{effectiveCs, shapeCs, cylindrical, tooManySegme
 use Rattle.shape.specs.Drawing.{shapeFinite, pointWithin, pointsWithin, shapeWithin, listWithin, numbersBad, anglesBad, drawingRefusal}
 use Rattle.slice.specs.Every.{countedPlaces, every}
 use Rattle.mesh_spec.specs.Parts.{partsFinite}
-use Rattle.mesh_check.specs.State.{noRoom}
+use Rattle.mesh_check.specs.State.{recordOf, emptyRecord, noRoom}
 use Rattle.mesh_made.specs.Made.{Lent, shortWork, Ending, refusedAs, acceptedAs, madeAs}
 use Rattle.shape.specs.Rotated.{isRotPoly}
 use Rattle.solid_spec.specs.Solid.{partsOf, solidMesh}
@@ -77,7 +79,7 @@ unfolding tessellateOf madeAs refusalOf orElse shortWork jobRefusal badSoup noRo
     within1000 shapeWithin listWithin opsFinite opFinite opsAnglesWithin opAngleWithin finalMesh weldedMesh jobParts partsOf solidMesh isRotPoly fromParts
     appendParts append fromSoup weldSoup weldTriangle withPoint firstSight samePoint plusZeroV shapeCs effectiveCs cylindrical boxShape paramBox faces face
     grid coord vMin vMax folded foldFrom opMatrix scaling identity product productRow timesRows fromRows transform moved flip transformPoint along overW
-    determinant detRows minimum maximum absolute isNan lt le eq ne neg add sub mul div ofInt ofBits
+    determinant detRows minimum maximum absolute boundingBox boxOf including include emptyBox plusZeroBox isNan lt le eq ne neg add sub mul div ofInt ofBits
 computed = tessellateOf
 
 -- ---- what the slices hold
@@ -92,9 +94,16 @@ pub flat-fits-exactly : tessellateOf (boxBetween origin (new (float 1) (float 2)
 unfolding computed
 flat-fits-exactly = refl
 
-counts : tessellateOf box (of 24 36 16) .state .mesh ≡ record { vertices = 8; triangles = 12 }
+-- the record: the counts, and the box of the vertices
+box-record : tessellateOf box (of 24 36 16) .state .mesh ≡ recordOf 8 12 (record { min = origin; max = corner })
 unfolding computed
-counts = refl
+box-record = refl
+
+-- scaled by 2: the box of the vertices under the operations
+scaled-bounds : tessellateOf (boxBetween origin corner Cartesian 32 (Scale (float 2) ∷ replicate 15 noOp) 1) (of 24 36 16) .state .mesh .bounds
+    ≡ record { min = origin; max = new (float 2) (float 4) (float 6) }
+unfolding computed
+scaled-bounds = refl
 
 first-floats : take 6 (tessellateOf box (of 24 36 16) .state .vertices) ≡ float 0 ∷ float 0 ∷ float 0 ∷ float 0 ∷ float 0 ∷ float 3 ∷ []
 unfolding computed
@@ -117,12 +126,12 @@ work-zero : tessellateOf box (of 24 36 16) .work ≡ replicate 16 0
 unfolding computed
 work-zero = refl
 
--- refused: counts 0, and every slice zero
+-- refused: counts 0, the empty box, and every slice zero
 refused-zero : tessellateOf box (of 4 5 2)
     ≡ record {
       refusal = NoRoom;
       state = record {
-        mesh = record { vertices = 0; triangles = 0 };
+        mesh = emptyRecord;
         vertices = float 0 ∷ float 0 ∷ float 0 ∷ float 0 ∷ [];
         triangles = 0 ∷ 0 ∷ 0 ∷ 0 ∷ 0 ∷ [];
       };

@@ -42,7 +42,7 @@ fn weld_all(
         cylindrical,
         options,
     );
-    mesh_made::judge(w)
+    mesh_made::judge(w, vertices)
 }
 
 // The parts welded, and the mesh turned outward and under the operations, unless it is refused.
@@ -70,9 +70,9 @@ pub fn draw(
     let rotated = shape::is_rot_poly(shape);
     let made = weld_all(vertices, triangles, work, shape, list, cylindrical, options);
     let refusal = made.refusal;
-    let counts = made.mesh;
+    let mesh = made.mesh;
     if !refusal::is_accepted(refusal) {
         return made;
     }
-    tessellate_place::complete(rotated, counts, vertices, triangles, ops, op_count, degrees)
+    tessellate_place::complete(rotated, mesh, vertices, triangles, ops, op_count, degrees)
 }

@@ -48,7 +48,7 @@ module _ (l : List Float) (n : Lent) where
 -- us, ss, xs are the slices before the call; vs, ts, ws after the welding
 pub soup-makes : (l : List Float) (b w r : Welder) (us vs : List Float) (ss ts xs zs ws : List ℕ) → shortWork (length us) (length xs) ≡ false → brokenSoup l ≡ false
     → Begun b us zs → Runs (soupOf l) (held b us ss zs) (held w vs ts ws) → Parted w r → lent vs ts ws ≡ lent us ss xs
-    → Makes (soupRefusal l (lent us ss xs)) (fromSoup (soupOf l)) (judged r) vs ts
+    → Makes (soupRefusal l (lent us ss xs)) (fromSoup (soupOf l)) (judged r vs) vs ts
 soup-makes l b w r us vs ss ts xs zs ws enough whole B R P e =
     let soup = soupOf l in
     makes-as (ap {B = Refusal} (partsRefusal (soup ∷ [])) e ∙ after-list l (lent us ss xs) enough whole) (fromParts-one soup)

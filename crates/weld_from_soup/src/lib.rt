@@ -80,7 +80,7 @@ fn make(soup: &[f64], vertices: &mut [f64], triangles: &mut [u32], work: &mut [u
     }
     let b = weld::begin(vertices, work);
     let w = weld::new_part(weld_each(vertices, triangles, work, b, soup));
-    mesh_made::judge(w)
+    mesh_made::judge(w, vertices)
 }
 
 // from_soup: the mesh of a soup, nine floats a triangle, in the lent slices, or a refusal: 6, 4, 5 or 7.

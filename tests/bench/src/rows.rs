@@ -2,7 +2,7 @@
 use crate::inputs::{grid, ring, screw, star};
 use csx_plain::tessellate::TriMesh;
 use csx_plain::{Mat4, Vec3};
-use sides::ours::{self, Lent, Solid};
+use sides::ours::{self, Bounds, Lent, Solid};
 use sides::rust;
 use std::cell::RefCell;
 use std::f64::consts::TAU;
@@ -43,7 +43,7 @@ fn prepared<T: 'static>(mut make: impl FnMut() -> T + 'static, mut call: impl Fn
 }
 
 /// The rows by name; a row is built when it is run.
-pub const ROWS: [(&str, fn(&'static str) -> Row); 15] = [
+pub const ROWS: [(&str, fn(&'static str) -> Row); 16] = [
     ("sphere 32x16", |name| sphere(name, 32, 16)),
     ("sphere 256x128", |name| sphere(name, 256, 128)),
     ("sphere 1024x1024", |name| sphere(name, 1024, 1024)),
@@ -54,6 +54,7 @@ pub const ROWS: [(&str, fn(&'static str) -> Row); 15] = [
     ("wire 256 32/16", wire),
     ("area", area),
     ("signed_volume", signed_volume),
+    ("bounding_box", bounding_box),
     ("append to a new mesh", append_to_new),
     ("append with room", append_with_room),
     ("flip", flip),
@@ -61,12 +62,13 @@ pub const ROWS: [(&str, fn(&'static str) -> Row); 15] = [
     ("from_soup 1000000", from_soup),
 ];
 
-/// Stops where the counts differ. Bits are not compared here (the unpatched sine has others), but by tests/compare.
+/// Stops where the counts, the triangles or the boxes differ. Bits are not compared here (the unpatched sine has others), but by tests/compare.
 fn agree(name: &str, refusal: u32, lent: &Lent, mesh: &TriMesh) {
     assert_eq!(refusal, 0, "{name}: refused");
     let counts = (mesh.vertices.len(), mesh.triangles.len());
     assert_eq!((lent.vertex_count, lent.triangle_count), counts, "{name}: the counts differ");
     assert!(lent.triangles.chunks_exact(3).zip(&mesh.triangles).all(|(t, u)| t == u), "{name}: the triangles differ");
+    near_boxes(name, &lent.bounds, mesh);
 }
 
 /// A solid on both sides. The vertex and triangle slices have exactly the places that the result needs, as a caller lends them that knows
@@ -128,6 +130,12 @@ fn near(name: &str, x: f64, y: f64) {
     assert!((x - y).abs() <= 1e-9 * y.abs(), "{name}: {x} and {y}");
 }
 
+fn near_boxes(name: &str, bounds: &Bounds, mesh: &TriMesh) {
+    let other = mesh.bounding_box();
+    let others = other.min.0.iter().chain(&other.max.0);
+    bounds.iter().zip(others).for_each(|(x, y)| assert!((x - y).abs() <= 1e-9, "{name}: bounds {x} and {y}"));
+}
+
 fn area(name: &'static str) -> Row {
     let (lent, mesh) = meshes(name, 1);
     near(name, ours::area(&lent), mesh.area());
@@ -147,6 +155,19 @@ fn signed_volume(name: &'static str) -> Row {
         triangles: mesh.triangles.len(),
         ours: again(move || _ = black_box(ours::signed_volume(black_box(&lent)))),
         rust: again(move || _ = black_box(black_box(&mesh).signed_volume())),
+    }
+}
+
+fn bounding_box(name: &'static str) -> Row {
+    let (lent, mesh) = meshes(name, 1);
+    let (refusal, bounds) = ours::bounding_box(&lent);
+    assert_eq!(refusal, 0, "{name}: refused");
+    near_boxes(name, &bounds, &mesh);
+    Row {
+        name,
+        triangles: mesh.triangles.len(),
+        ours: again(move || _ = black_box(ours::bounding_box(black_box(&lent)))),
+        rust: again(move || _ = black_box(black_box(&mesh).bounding_box())),
     }
 }
 
@@ -174,19 +195,19 @@ fn append_to_new(name: &'static str) -> Row {
     }
 }
 
-/// The same on meshes that are cut back to their first counts before each call. The Rust's lists keep their capacity, so that
+/// The same on meshes that are cut back to their first counts before each call, ours to its first box too. The Rust's lists keep their capacity, so that
 /// neither side allocates.
 fn append_with_room(name: &'static str) -> Row {
     let (other, more) = meshes(name, 1);
     let (mut lent, mut mesh) = meshes(name, 2);
-    let (n, k) = (mesh.vertices.len(), mesh.triangles.len());
+    let (n, k, bounds) = (mesh.vertices.len(), mesh.triangles.len(), lent.bounds);
     mesh.append(&more);
     agree(name, ours::append(&mut lent, &other), &lent, &mesh);
     Row {
         name,
         triangles: k,
         ours: again(move || {
-            (lent.vertex_count, lent.triangle_count) = (n, k);
+            (lent.vertex_count, lent.triangle_count, lent.bounds) = (n, k, bounds);
             black_box(ours::append(black_box(&mut lent), &other));
         }),
         rust: again(move || {

@@ -2,7 +2,6 @@
 use crate::case::*;
 use crate::reference;
 use crate::refusals::{self, Lent, PLACES, POINT};
-use csx::Vec3;
 use csx::added::triangulate_counted;
 use csx::tessellate::TriMesh;
 use std::io::{self, Write};
@@ -30,10 +29,14 @@ impl Meshes {
                 std::mem::swap(&mut self.a, &mut self.b);
                 return write_words(to, &[0]);
             }
-            LOAD => self.load(case),
+            LOAD => {
+                self.a = loaded(case);
+                0
+            }
             other => panic!("no call {other}"),
         };
         write_words(to, &[refusal, self.a.vertex_count, self.a.triangle_count])?;
+        write_floats(to, &self.a.bounds)?;
         write_floats(to, &self.a.vertices)?;
         write_words(to, &self.a.triangles)?;
         if case.what == TESSELLATE {
@@ -90,15 +93,16 @@ impl Meshes {
         }
         refusal
     }
+}
 
-    fn load(&mut self, case: &Case) -> u32 {
-        let mut vertices = vec![f64::from_bits(u64::from_le_bytes([FILL; 8])); case.vertex_floats as usize];
-        let mut triangles = vec![u32::from_le_bytes([FILL; 4]); case.triangle_numbers as usize];
-        vertices.iter_mut().zip(&case.list).for_each(|(to, from)| *to = *from);
-        triangles.iter_mut().zip(&case.triangles).for_each(|(to, from)| *to = *from);
-        self.a = Lent { vertices, triangles, vertex_count: case.vertex_count, triangle_count: case.triangle_count };
-        0
-    }
+/// The mesh that a load makes. Nothing is checked.
+pub fn loaded(case: &Case) -> Lent {
+    let mut vertices = vec![f64::from_bits(u64::from_le_bytes([FILL; 8])); case.vertex_floats as usize];
+    let mut triangles = vec![u32::from_le_bytes([FILL; 4]); case.triangle_numbers as usize];
+    vertices.iter_mut().zip(&case.list).for_each(|(to, from)| *to = *from);
+    triangles.iter_mut().zip(&case.triangles).for_each(|(to, from)| *to = *from);
+    let (vertex_count, triangle_count) = (case.vertex_count, case.triangle_count);
+    Lent { vertices, triangles, vertex_count, triangle_count, bounds: case.claimed() }
 }
 
 /// The mesh of a case, or the refusal: 6, 3, 4, 1, 2, then 5 over the soup, 7, and 5 over the transformed vertices.
@@ -146,13 +150,9 @@ fn measure(lent: &Lent, to: &mut impl Write) -> io::Result<()> {
     if refusal == 0 {
         let mesh = taken(lent);
         let volume = mesh.signed_volume();
-        let bounds = mesh.bounding_box();
         let number = |x: f64| if x.is_nan() { 0x7FF8_0000_0000_0000 } else { x.to_bits() };
         bits[..3].copy_from_slice(&[volume, volume.abs(), mesh.area()].map(number));
-        for axis in 0..3 {
-            bits[3 + axis] = (bounds.min[axis] + 0.0).to_bits();
-            bits[6 + axis] = (bounds.max[axis] + 0.0).to_bits();
-        }
+        bits[3..].copy_from_slice(&reference::bounds(&mesh).map(f64::to_bits));
     }
     write_words(to, &[refusal])?;
     bits.iter().try_for_each(|b| to.write_all(&b.to_le_bytes()))
@@ -165,15 +165,16 @@ fn finite(mesh: &TriMesh) -> bool {
 /// The counted part of lent slices as the reference's mesh.
 fn taken(lent: &Lent) -> TriMesh {
     TriMesh {
-        vertices: lent.counted_vertices().chunks_exact(3).map(|c| Vec3::new(c[0], c[1], c[2])).collect(),
+        vertices: reference::points(lent.counted_vertices()),
         triangles: lent.counted_triangles().chunks_exact(3).map(|c| [c[0], c[1], c[2]]).collect(),
     }
 }
 
-/// A mesh into lent slices. Places beyond it stay.
+/// A mesh into lent slices, and its record. Places beyond it stay.
 fn put(lent: &mut Lent, mesh: &TriMesh) {
     lent.vertex_count = mesh.vertices.len() as u32;
     lent.triangle_count = mesh.triangles.len() as u32;
+    lent.bounds = reference::bounds(mesh);
     let floats = mesh.vertices.iter().flat_map(|v| v.0);
     lent.vertices.iter_mut().zip(floats).for_each(|(to, from)| *to = from);
     let numbers = mesh.triangles.iter().flatten();

@@ -37,6 +37,9 @@ pub const SHAPES: [&str; 10] = [
 /// How many of the ten numbers each shape has.
 pub const NUMBERS: [usize; 10] = [6, 0, 4, 5, 7, 8, 1, 2, 3, 1];
 
+/// Bytes of a case before its operations.
+const HEAD: usize = 144;
+
 /// How many numbers an operation has, by its kind 1 to 8.
 pub const OP_NUMBERS: [usize; 9] = [0, 3, 4, 1, 1, 1, 1, 3, 16];
 
@@ -71,6 +74,7 @@ pub struct Case {
     pub work_numbers: u32,
     pub vertex_count: u32,
     pub triangle_count: u32,
+    /// The shape's numbers; of a load the first six are the box claimed.
     pub numbers: [f64; 10],
     pub ops: Vec<Op>,
     pub list: Vec<f64>,
@@ -80,7 +84,7 @@ pub struct Case {
 impl Case {
     /// The next case, or none at the end of the file.
     pub fn read(from: &mut impl Read) -> io::Result<Option<Case>> {
-        let mut head = [0u8; 128];
+        let mut head = [0u8; HEAD];
         if from.read(&mut head[..1])? == 0 {
             return Ok(None);
         }
@@ -144,6 +148,8 @@ impl Case {
             to.write_all(&word.to_le_bytes())?;
         }
         write_floats(to, &self.numbers)?;
+        // Not read.
+        to.write_all(&[0; HEAD - 128])?;
         for op in &self.ops {
             write_floats(to, &[f64::from_bits(op.kind as u64)])?;
             write_floats(to, &op.numbers)?;
@@ -157,6 +163,15 @@ impl Case {
         &self.numbers[..NUMBERS[self.shape as usize]]
     }
 
+    /// The box that a load claims: least x, y, z, greatest x, y, z.
+    pub fn claimed(&self) -> Bounds {
+        self.numbers[..6].try_into().unwrap()
+    }
+
+    pub fn claim(&mut self, bounds: Bounds) {
+        self.numbers[..6].copy_from_slice(&bounds);
+    }
+
     /// Floats an item of the shape's list, and the most items; none for a shape without a list.
     pub fn items(&self) -> Option<(usize, usize)> {
         match self.shape {
@@ -167,6 +182,13 @@ impl Case {
         }
     }
 }
+
+/// A box: least x, y, z, greatest x, y, z.
+pub type Bounds = [f64; 6];
+
+/// The box of a mesh without vertices.
+pub const EMPTY_BOX: Bounds =
+    [f64::INFINITY, f64::INFINITY, f64::INFINITY, f64::NEG_INFINITY, f64::NEG_INFINITY, f64::NEG_INFINITY];
 
 /// A list of pairs.
 pub fn pairs(list: &[f64]) -> Vec<(f64, f64)> {

@@ -1,4 +1,5 @@
-//! Demand 3 (docs/SCOPE.md, "Words of demand 3"), checked on results: which cases make a closed solid, and whether a mesh is closed.
+//! Demand 3 (docs/SCOPE.md, "Words of demand 3") and the box, checked on results: which cases make a closed solid, whether a mesh is closed, and
+//! where its vertices end.
 use crate::case::*;
 use crate::refusals::Lent;
 use csx::tessellate::shown::ccw_polygon;
@@ -21,6 +22,15 @@ pub fn sound(mesh: &Lent) -> bool {
     let apart = |t: &[u32]| t[0] != t[1] && t[1] != t[2] && t[2] != t[0];
     let there = |t: &[u32]| t.iter().all(|&v| v < mesh.vertex_count);
     mesh.counted_triangles().chunks_exact(3).all(|t| apart(t) && there(t))
+}
+
+/// The least x, y, z and the greatest x, y, z of the counted vertices, a zero as +0.0.
+pub fn box_of(mesh: &Lent) -> Bounds {
+    let of = |axis: usize| mesh.counted_vertices().iter().skip(axis).step_by(3).copied();
+    let least = |axis: usize| of(axis).fold(f64::INFINITY, |least, x| if x < least { x } else { least });
+    let greatest =
+        |axis: usize| of(axis).fold(f64::NEG_INFINITY, |greatest, x| if x > greatest { x } else { greatest });
+    std::array::from_fn(|i| if i < 3 { least(i) } else { greatest(i - 3) } + 0.0)
 }
 
 /// The case is a closed solid, if it is accepted.

@@ -1,4 +1,5 @@
 //! Cases by seed: every shape and call, and each refusal on both sides of its edge.
+mod boxes;
 mod floats;
 mod meshes;
 mod operations;

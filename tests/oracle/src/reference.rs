@@ -5,7 +5,7 @@ use csx::primitives::{
     SphericalShell, Wire,
 };
 use csx::tessellate::{TessellationOptions, TriMesh, tessellate};
-use csx::{CoordSystem, Scalar, Transform, TransformOp};
+use csx::{CoordSystem, Scalar, Transform, TransformOp, Vec3};
 
 fn system(cylindrical: bool) -> CoordSystem {
     if cylindrical { CoordSystem::Cylindrical } else { CoordSystem::Cartesian }
@@ -73,6 +73,22 @@ pub fn untransformed(case: &Case) -> TriMesh {
 /// The mesh.
 pub fn transformed(case: &Case) -> TriMesh {
     tessellated(case, transform(case))
+}
+
+/// A list of floats as points.
+pub fn points(list: &[f64]) -> Vec<Vec3> {
+    list.chunks_exact(3).map(|c| Vec3::new(c[0], c[1], c[2])).collect()
+}
+
+/// `bounding_box` of a mesh, a zero as +0.0.
+pub fn bounds(mesh: &TriMesh) -> Bounds {
+    let found = mesh.bounding_box();
+    std::array::from_fn(|i| if i < 3 { found.min[i] } else { found.max[i - 3] } + 0.0)
+}
+
+/// `bounding_box` of a mesh of these vertices.
+pub fn bounds_of(list: &[f64]) -> Bounds {
+    bounds(&TriMesh { vertices: points(list), triangles: Vec::new() })
 }
 
 fn tessellated(case: &Case, transform: Transform) -> TriMesh {

@@ -1,5 +1,6 @@
 //! The refusals, from the text of docs/SCOPE.md, "Refusals". Each function returns one of its numbers, or 0.
 use crate::case::*;
+use crate::reference;
 
 pub const NOT_FINITE: u32 = 1;
 pub const ANGLE: u32 = 2;
@@ -79,13 +80,21 @@ pub fn before_clipping(case: &Case) -> u32 {
     }
 }
 
-/// A mesh in lent slices.
-#[derive(Clone, Debug, Default)]
+/// A mesh in lent slices: its record is the counts and the box.
+#[derive(Clone, Debug)]
 pub struct Lent {
     pub vertices: Vec<f64>,
     pub triangles: Vec<u32>,
     pub vertex_count: u32,
     pub triangle_count: u32,
+    pub bounds: Bounds,
+}
+
+/// The empty record, and slices of no places.
+impl Default for Lent {
+    fn default() -> Lent {
+        Lent { vertices: Vec::new(), triangles: Vec::new(), vertex_count: 0, triangle_count: 0, bounds: EMPTY_BOX }
+    }
 }
 
 impl Lent {
@@ -106,32 +115,47 @@ impl Lent {
         &self.triangles[..3 * self.triangle_count as usize]
     }
 
-    /// 8: a count beyond its slice, or a triangle number at or above the vertex count.
-    fn broken(&self) -> bool {
+    /// 8, asked first: a count beyond its slice, or a triangle number at or above the vertex count.
+    pub fn broken(&self) -> bool {
         self.vertex_count as usize > self.vertex_places()
             || self.triangle_count as usize > self.triangle_places()
             || self.counted_triangles().iter().any(|&v| v >= self.vertex_count)
     }
+
+    /// 1, on the counted vertices.
+    pub fn not_finite(&self) -> bool {
+        !finite(self.counted_vertices())
+    }
+
+    /// 8, asked after 1: the record has another box than `bounding_box` of the counted vertices. Floats are compared: −0.0 equals +0.0, a
+    /// NaN equals nothing.
+    fn wrong_box(&self) -> bool {
+        self.bounds != reference::bounds_of(self.counted_vertices())
+    }
 }
 
-/// 8, then 1 on the counted vertices: what flip and the measures check.
+/// 8, then 1, then 8 for the box: what flip and the measures check.
 pub fn of_mesh(mesh: &Lent) -> u32 {
     if mesh.broken() {
         MESH
-    } else if !finite(mesh.counted_vertices()) {
+    } else if mesh.not_finite() {
         NOT_FINITE
+    } else if mesh.wrong_box() {
+        MESH
     } else {
         0
     }
 }
 
-/// Append's 8 and 1 on either mesh, then 7.
+/// Append's 8 on either mesh, 1 on either, 8 for the box of either, then 7.
 pub fn of_append(a: &Lent, b: &Lent) -> u32 {
     let both = |x: u32, y: u32| x as usize + y as usize;
     if a.broken() || b.broken() {
         MESH
-    } else if of_mesh(a) != 0 || of_mesh(b) != 0 {
+    } else if a.not_finite() || b.not_finite() {
         NOT_FINITE
+    } else if a.wrong_box() || b.wrong_box() {
+        MESH
     } else if too_many(
         both(a.vertex_count, b.vertex_count),
         both(a.triangle_count, b.triangle_count),
@@ -144,14 +168,16 @@ pub fn of_append(a: &Lent, b: &Lent) -> u32 {
     }
 }
 
-/// Transform's 8, 4 on the operations, 1 on the counted vertices and the operations, 2.
+/// Transform's 8, 4 on the operations, 1 on the counted vertices and the operations, 8 for the box, 2.
 pub fn of_transform(mesh: &Lent, case: &Case) -> u32 {
     if mesh.broken() {
         MESH
     } else if case.ops.len() > 16 {
         LIST
-    } else if of_mesh(mesh) != 0 || !case.ops.iter().all(|op| finite(op.given())) {
+    } else if mesh.not_finite() || !case.ops.iter().all(|op| finite(op.given())) {
         NOT_FINITE
+    } else if mesh.wrong_box() {
+        MESH
     } else if op_angles(case).any(exceeds) {
         ANGLE
     } else {

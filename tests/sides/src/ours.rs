@@ -1,6 +1,13 @@
 //! crates/c_solids: a lent slice is a pointer and a length.
 
-/// The slices of a mesh, lent with exactly the places that its result needs, and its counts.
+/// A box: least x, y, z, greatest x, y, z.
+pub type Bounds = [f64; 6];
+
+/// The box of a mesh without vertices.
+const EMPTY_BOX: Bounds =
+    [f64::INFINITY, f64::INFINITY, f64::INFINITY, f64::NEG_INFINITY, f64::NEG_INFINITY, f64::NEG_INFINITY];
+
+/// The slices of a mesh, lent with exactly the places that its result needs, and its record: the counts and the box.
 #[derive(Clone)]
 pub struct Lent {
     pub vertices: Vec<f64>,
@@ -8,6 +15,7 @@ pub struct Lent {
     pub work: Vec<u32>,
     pub vertex_count: usize,
     pub triangle_count: usize,
+    pub bounds: Bounds,
 }
 
 impl Lent {
@@ -19,6 +27,7 @@ impl Lent {
             work: vec![0; 2 * vertices],
             vertex_count: 0,
             triangle_count: 0,
+            bounds: EMPTY_BOX,
         }
     }
 }
@@ -66,35 +75,65 @@ unsafe extern "C" {
         work_len: usize,
         n: *mut usize,
         k: *mut usize,
+        bounds: *mut Bounds,
     ) -> u32;
-    fn sizturga_bench_area(n: usize, k: usize, v: *const f64, v_len: usize, t: *const u32, t_len: usize) -> u64;
-    fn sizturga_bench_signed_volume(
+    fn sizturga_bench_area(
         n: usize,
         k: usize,
+        bounds: *const Bounds,
         v: *const f64,
         v_len: usize,
         t: *const u32,
         t_len: usize,
     ) -> u64;
+    fn sizturga_bench_signed_volume(
+        n: usize,
+        k: usize,
+        bounds: *const Bounds,
+        v: *const f64,
+        v_len: usize,
+        t: *const u32,
+        t_len: usize,
+    ) -> u64;
+    fn sizturga_bench_bounding_box(
+        n: usize,
+        k: usize,
+        bounds: *const Bounds,
+        v: *const f64,
+        v_len: usize,
+        t: *const u32,
+        t_len: usize,
+        out: *mut Bounds,
+    ) -> u32;
     fn sizturga_bench_append(
         n: *mut usize,
         k: *mut usize,
+        bounds: *mut Bounds,
         v: *mut f64,
         v_len: usize,
         t: *mut u32,
         t_len: usize,
         other_n: usize,
         other_k: usize,
+        other_bounds: *const Bounds,
         other_v: *const f64,
         other_v_len: usize,
         other_t: *const u32,
         other_t_len: usize,
     ) -> u32;
-    fn sizturga_bench_flip(n: *mut usize, k: *mut usize, v: *const f64, v_len: usize, t: *mut u32, t_len: usize)
-    -> u32;
+    fn sizturga_bench_flip(
+        n: *mut usize,
+        k: *mut usize,
+        bounds: *mut Bounds,
+        v: *const f64,
+        v_len: usize,
+        t: *mut u32,
+        t_len: usize,
+    ) -> u32;
     fn sizturga_bench_transform(
         n: *mut usize,
         k: *mut usize,
+        bounds: *mut Bounds,
         v: *mut f64,
         v_len: usize,
         t: *mut u32,
@@ -118,6 +157,7 @@ unsafe extern "C" {
         work_len: usize,
         n: *mut usize,
         k: *mut usize,
+        bounds: *mut Bounds,
     ) -> u32;
 }
 
@@ -188,15 +228,17 @@ pub fn tessellate(solid: &Solid, segments: usize, rings: usize, m: &mut Lent) ->
             w.len(),
             &mut m.vertex_count,
             &mut m.triangle_count,
+            &mut m.bounds,
         )
     }
 }
 
-type Measure = unsafe extern "C" fn(usize, usize, *const f64, usize, *const u32, usize) -> u64;
+type Measure = unsafe extern "C" fn(usize, usize, *const Bounds, *const f64, usize, *const u32, usize) -> u64;
 
 fn measure(call: Measure, m: &Lent) -> f64 {
     let (v, t) = (&m.vertices, &m.triangles);
-    f64::from_bits(unsafe { call(m.vertex_count, m.triangle_count, v.as_ptr(), v.len(), t.as_ptr(), t.len()) })
+    let (n, k) = (m.vertex_count, m.triangle_count);
+    f64::from_bits(unsafe { call(n, k, &m.bounds, v.as_ptr(), v.len(), t.as_ptr(), t.len()) })
 }
 
 pub fn area(m: &Lent) -> f64 {
@@ -207,18 +249,39 @@ pub fn signed_volume(m: &Lent) -> f64 {
     measure(sizturga_bench_signed_volume, m)
 }
 
+/// The refusal's number, and the box.
+pub fn bounding_box(m: &Lent) -> (u32, Bounds) {
+    let (v, t) = (&m.vertices, &m.triangles);
+    let mut out = [0.0; 6];
+    let refusal = unsafe {
+        sizturga_bench_bounding_box(
+            m.vertex_count,
+            m.triangle_count,
+            &m.bounds,
+            v.as_ptr(),
+            v.len(),
+            t.as_ptr(),
+            t.len(),
+            &mut out,
+        )
+    };
+    (refusal, out)
+}
+
 pub fn append(m: &mut Lent, o: &Lent) -> u32 {
     let (v, t) = (&mut m.vertices, &mut m.triangles);
     unsafe {
         sizturga_bench_append(
             &mut m.vertex_count,
             &mut m.triangle_count,
+            &mut m.bounds,
             v.as_mut_ptr(),
             v.len(),
             t.as_mut_ptr(),
             t.len(),
             o.vertex_count,
             o.triangle_count,
+            &o.bounds,
             o.vertices.as_ptr(),
             o.vertices.len(),
             o.triangles.as_ptr(),
@@ -230,7 +293,15 @@ pub fn append(m: &mut Lent, o: &Lent) -> u32 {
 pub fn flip(m: &mut Lent) -> u32 {
     let (v, t) = (&m.vertices, &mut m.triangles);
     unsafe {
-        sizturga_bench_flip(&mut m.vertex_count, &mut m.triangle_count, v.as_ptr(), v.len(), t.as_mut_ptr(), t.len())
+        sizturga_bench_flip(
+            &mut m.vertex_count,
+            &mut m.triangle_count,
+            &mut m.bounds,
+            v.as_ptr(),
+            v.len(),
+            t.as_mut_ptr(),
+            t.len(),
+        )
     }
 }
 
@@ -241,6 +312,7 @@ pub fn transform(m: &mut Lent, axis: [f64; 3], angle: f64, by: [f64; 3]) -> u32 
         sizturga_bench_transform(
             &mut m.vertex_count,
             &mut m.triangle_count,
+            &mut m.bounds,
             v.as_mut_ptr(),
             v.len(),
             t.as_mut_ptr(),
@@ -271,6 +343,7 @@ pub fn from_soup(soup: &[f64], m: &mut Lent) -> u32 {
             w.len(),
             &mut m.vertex_count,
             &mut m.triangle_count,
+            &mut m.bounds,
         )
     }
 }

@@ -33,6 +33,7 @@ fn report() {
     println!("transform\t{}", taken(|| _ = ours::transform(&mut mesh, [0.0, 0.0, 1.0], 0.5, [1.0, 2.0, 3.0])));
     println!("area\t{}", taken(|| _ = black_box(ours::area(&mesh))));
     println!("signed_volume\t{}", taken(|| _ = black_box(ours::signed_volume(&mesh))));
+    println!("bounding_box\t{}", taken(|| _ = black_box(ours::bounding_box(&mesh))));
     let soup: Vec<f64> = (0..9000).map(f64::from).collect();
     let mut lent = Lent::new(3000, 1000);
     println!("from_soup\t{}", taken(|| assert_eq!(ours::from_soup(&soup, &mut lent), 0)));

@@ -4,12 +4,13 @@ use mathlib.Core.Path.{_≡_, sym, ap, _∙_}
 use mathlib.Core.Bool.{true, false}
 use borrow.Author.Tests.{not-true, not-false}
 use Rattle.refusal.specs.Accepted.{isAccepted}
-use Rattle.mesh_check.specs.State.{state, meshOf}
+use Rattle.mesh_check.specs.State.{state, meshOf, checkOf}
+use Rattle.mesh_check.specs.StateLaws.{boxed-refusal}
 use Rattle.mesh_check.proofs.Sound.{check-sound}
 use Rattle.mesh_measures.proofs.Readings.{all-within, sum-is, measure-refused, measure-done}
 use lib.Ieee.{Float, binary64, ofBits}
 use Rattle.ieee.specs.Number.{absolute}
-use Rattle.mesh_spec.specs.Measures.{enclosedVolume, volumeTerm}
+use Rattle.mesh_spec.specs.Measures.{boundingBox, enclosedVolume, volumeTerm}
 use Rattle.mesh_sums.proofs.Terms.{volume-is}
 use borrow.Author.Needs.{needs}
 use Rattle.mesh_measures.proofs.enclosed_volume.Statement.{statement}
@@ -26,16 +27,18 @@ returns c =
     let a = c .before .before .before .before .before .args in
     let s = state (a .mesh) (now (a .vertices)) (now (a .triangles)) in
     let r = c .before .before .check in
-    let h : isAccepted (r .result) ≡ false = sym (c .before .is-accepted .ensures) ∙ not-true _ (c .if1 .taken) in
-    measure-refused enclosedVolume s (r .result) (r .ensures) h
+    let e = boxed-refusal (checkOf s) (boundingBox (meshOf s)) (r .result) (r .ensures) in
+    let h : isAccepted (r .result .refusal) ≡ false = sym (c .before .is-accepted .ensures) ∙ not-true _ (c .if1 .taken) in
+    measure-refused enclosedVolume s (r .result .refusal) e h
 
 volume-sum-requires : tie.Need-volume-sum-requires
 volume-sum-requires c κs =
     let a = c .before .before .before .before .before .args in
     let s = state (a .mesh) (now (a .vertices)) (now (a .triangles)) in
     let r = c .before .before .check in
-    let h : isAccepted (r .result) ≡ true = sym (c .before .is-accepted .ensures) ∙ not-false _ (c .if1 .left) in
-    all-within s (check-sound s (r .result) (r .ensures) h)
+    let e = boxed-refusal (checkOf s) (boundingBox (meshOf s)) (r .result) (r .ensures) in
+    let h : isAccepted (r .result .refusal) ≡ true = sym (c .before .is-accepted .ensures) ∙ not-false _ (c .if1 .left) in
+    all-within s (check-sound s (r .result .refusal) e h)
 
 abs-requires : tie.Need-abs-requires
 abs-requires c κs = search needs
@@ -49,13 +52,14 @@ returns-2 c =
     let a = c .before .before .before .before .before .before .before .before .args in
     let s = state (a .mesh) (now (a .vertices)) (now (a .triangles)) in
     let r = c .before .before .before .before .before .check in
-    let h : isAccepted (r .result) ≡ true = sym (c .before .before .before .before .is-accepted .ensures) ∙ not-false _ (c .before .before .before .if1 .left) in
-    let ok = check-sound s (r .result) (r .ensures) h in
+    let e = boxed-refusal (checkOf s) (boundingBox (meshOf s)) (r .result) (r .ensures) in
+    let h : isAccepted (r .result .refusal) ≡ true = sym (c .before .before .before .before .is-accepted .ensures) ∙ not-false _ (c .before .before .before .if1 .left) in
+    let ok = check-sound s (r .result .refusal) e h in
     let x = c .before .before .volume-sum in
     let b = c .bits-of in
     let q = volume-is (meshOf s) (x .result) (sum-is s ok volumeTerm (ofBits binary64 0) (x .result) (x .ensures)) in
     let y = c .before .abs in
-    measure-done enclosedVolume s (r .result) (r .ensures) (y .result) (b .result) h (y .ensures ∙ ap {B = Float} absolute q) (b .ensures)
+    measure-done enclosedVolume s (r .result .refusal) e (y .result) (b .result) h (y .ensures ∙ ap {B = Float} absolute q) (b .ensures)
 
 pub enclosed-volume-spec : {M : Type 1} → statement M
 enclosed-volume-spec =

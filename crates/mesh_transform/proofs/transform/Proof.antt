@@ -93,7 +93,7 @@ returns-3 c =
     let z = ne-eqb m 0 (c .before .before .before .before .before .before .before .before .if2 .left) in
     let fold = c .before .before .before .before .before .before .before .fold in
     let v = c .before .before .before .before .move-mesh in
-    let u = state (s .mesh) (v .last .1 .0) (v .last .1 .1 .0) in
+    let u = state (v .result) (v .last .1 .0) (v .last .1 .1 .0) in
     let e : t ≡ u = rw z (sym (v .ensures ∙ ap {B = State} (λ (x : Mat4). stored (transform x (meshOf s)) s) (fold .ensures))) in
     gives-done q s t (r .result) (r .ensures) u (v .last .1 .0) (v .last .1 .1 .0) h e refl refl
 

@@ -1,9 +1,11 @@
 -- `tessellate_weld::weld_all` meets its contract. Assumes nothing.
 use mathlib.Core.Path.{_≡_, refl, ap}
 use denote.Ref.{now}
+use native.Mathlib.Omega.{arith}
 use lib.ListN.{length}
 use borrow.Author.Needs.{needs}
 use Rattle.refusal.specs.declared.Refusal.{Refusal}
+use Rattle.weld.specs.declared.Welder.{Welder}
 use Rattle.weld.specs.Rep.{held}
 use Rattle.weld.specs.PartsLaws.{parts-welded}
 use Rattle.mesh_made.specs.Steps.{partsRefusal}
@@ -25,8 +27,14 @@ weld-shape-requires c κs =
     let a = s .args in
     (c .before .before .before .before .before .begin .ensures .ready (now (a .triangles)), (bounded (a .shape) (now (a .list)) (a .options) (s .pre .0), listed (a .shape) (now (a .list)) (a .options) (s .pre .0)))
 
+-- shown of the welder before the welding too, so that must-fail/empty_mesh_for_each breaks what is returned and not this
 judge-requires : tie.Need-judge-requires
-judge-requires c κs = search needs
+judge-requires c κs =
+    let d = c .before .before .before .before .before .before .before in
+    let b = d .before .before .before .before .before .before in
+    let l = d .weld-shape .ensures .ready .linked .distinct in
+    let none : b .begin .result .count ≡ 0 = ap (λ (w : Welder). w .count) (b .begin .ensures .answer) in
+    omega (arith, l .room, l .fits, none)
 
 same-length : tie.Need-same-length
 same-length c = search needs
@@ -39,7 +47,7 @@ same-length-3 c = search needs
 
 returns : tie.Need-returns
 returns c =
-    let d = c .before .before .before .before .before .before .before in
+    let d = c .before .before .before .before .before .before .before .before in
     let b = d .before .before .before .before .before .before in
     let a = b .before .before .before .before .before .before .before .args in
     let parts = partsOf (a .cylindrical) (a .shape) (now (a .list)) (a .options) in

@@ -5,8 +5,9 @@ use lib.ListN.{length}
 use Rattle.refusal.specs.declared.Refusal.the-variants.{BadList, ShortWork}
 use Rattle.mesh_spec.specs.Mesh.{fromSoup}
 use Rattle.mesh_made.specs.Made.{lent}
+use Rattle.weld.specs.Rep.{held}
 use Rattle.mesh_made.proofs.Ending.{lent-same, makes-as, makes-is, makes-refused}
-use Rattle.mesh_made.proofs.Judging.{work-enough}
+use Rattle.mesh_made.proofs.Judging.{work-enough, counted-lie}
 use Rattle.weld_from_soup.specs.Soups.{soupOf}
 use Rattle.weld_from_soup.proofs.SoupRuns.{short, broken, soup-makes}
 use borrow.Author.Needs.{needs}
@@ -59,7 +60,12 @@ new-part-requires : tie.Need-new-part-requires
 new-part-requires c κs = search needs
 
 judge-requires : tie.Need-judge-requires
-judge-requires c κs = search needs
+judge-requires c κs =
+    let d = c .before .before .before .before .before .before .before .before in
+    let vs = d .weld-each .last .0 in
+    let ts = d .weld-each .last .1 .0 in
+    let ws = d .weld-each .last .1 .1 .0 in
+    counted-lie (held (c .before .new-part .result) vs ts ws) (c .before .new-part .ensures .ready vs ts ws (d .weld-each .ensures .ready))
 
 same-length : tie.Need-same-length
 same-length c = search needs
@@ -72,7 +78,7 @@ same-length-3 c = search needs
 
 returns-3 : tie.Need-returns-3
 returns-3 c =
-    let d = c .before .before .before .before .before .before .before .before in
+    let d = c .before .before .before .before .before .before .before .before .before in
     let b = d .before .before .before .before .before .before in
     let f = b .before .before .before in
     let k = f .before in
@@ -85,9 +91,9 @@ returns-3 c =
     let lt : length ts ≡ length (now (a .triangles)) = search needs in
     let lw : length ws ≡ length (now (a .work)) = search needs in
     makes-is (c .judge .ensures)
-    (soup-makes (now (a .soup)) (b .begin .result) (d .weld-each .result) (c .before .new-part .result)
+    (soup-makes (now (a .soup)) (b .begin .result) (d .weld-each .result) (c .before .before .new-part .result)
     (now (a .vertices)) vs (now (a .triangles)) ts (now (a .work)) (b .begin .last .1 .0) ws
-    (sym (e .before .short-work .ensures) ∙ e .if1 .left) (sym (k .is-broken .ensures) ∙ f .if2 .left) (b .begin .ensures) (d .weld-each .ensures) (c .before .new-part .ensures)
+    (sym (e .before .short-work .ensures) ∙ e .if1 .left) (sym (k .is-broken .ensures) ∙ f .if2 .left) (b .begin .ensures) (d .weld-each .ensures) (c .before .before .new-part .ensures)
     (lent-same vs (now (a .vertices)) ts (now (a .triangles)) ws (now (a .work)) lv lt lw))
 
 pub make-spec : {M : Type 1} → statement M

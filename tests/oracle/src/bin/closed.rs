@@ -1,7 +1,7 @@
-//! `closed CASES RESULTS`: checks a result file against demand 3 and the fill of docs/SCOPE.md, trusting neither program.
+//! `closed CASES RESULTS`: checks a result file against demand 3, the fill and the box of docs/SCOPE.md, trusting neither program.
 use oracle::case::*;
-use oracle::closed::{closed, is_closed_solid, sound};
-use oracle::refusals::{Lent, of_mesh};
+use oracle::closed::{box_of, closed, is_closed_solid, sound};
+use oracle::refusals::Lent;
 use std::collections::BTreeMap;
 use std::fs::File;
 use std::io::{self, BufReader, Read};
@@ -16,6 +16,8 @@ struct Tally {
     shapes: [[usize; 4]; 10],
     /// Edits checked: a closed mesh stayed closed.
     kept: usize,
+    /// Records checked: the box of the counted vertices, bit by bit.
+    boxes: usize,
     failures: usize,
 }
 
@@ -51,7 +53,10 @@ fn main() -> io::Result<()> {
                 check_clip(&mut tally, number, &case, refusal, counts, &slice);
             }
             MEASURE => {
-                results.read_exact(&mut [0; 72])?;
+                let measured = floats(&mut results, 9)?;
+                let right =
+                    if refusal == 0 { !a.broken() && same(&measured[3..], &box_of(&a)) } else { zero(&measured) };
+                tally.expect(right, number, &case, "not the box of the vertices, or refused and not zero");
             }
             EXCHANGE => std::mem::swap(&mut a, &mut b),
             _ => {
@@ -79,12 +84,22 @@ fn mesh(from: &mut impl Read, case: &Case, before: &Lent) -> io::Result<Lent> {
     let floats = if new { case.vertex_floats as usize } else { before.vertices.len() };
     let numbers = if new { case.triangle_numbers as usize } else { before.triangles.len() };
     let (vertex_count, triangle_count) = (read_word(from)?, read_word(from)?);
-    let vertices = (0..floats).map(|_| read_float(from)).collect::<io::Result<_>>()?;
-    Ok(Lent { vertices, triangles: words(from, numbers)?, vertex_count, triangle_count })
+    let bounds = self::floats(from, 6)?.try_into().expect("six floats");
+    let vertices = self::floats(from, floats)?;
+    Ok(Lent { vertices, triangles: words(from, numbers)?, vertex_count, triangle_count, bounds })
+}
+
+fn floats(from: &mut impl Read, n: usize) -> io::Result<Vec<f64>> {
+    (0..n).map(|_| read_float(from)).collect()
 }
 
 fn words(from: &mut impl Read, n: usize) -> io::Result<Vec<u32>> {
     (0..n).map(|_| read_word(from)).collect()
+}
+
+/// The same bits.
+fn same(x: &[f64], y: &[f64]) -> bool {
+    x.len() == y.len() && x.iter().zip(y).all(|(x, y)| x.to_bits() == y.to_bits())
 }
 
 fn zero(floats: &[f64]) -> bool {
@@ -107,11 +122,12 @@ fn check_clip(tally: &mut Tally, number: usize, case: &Case, refusal: u32, count
 fn check_solid(tally: &mut Tally, number: usize, case: &Case, refusal: u32, mesh: &Lent) {
     if refusal != 0 {
         let empty = mesh.vertex_count == 0 && mesh.triangle_count == 0;
+        tally.expect(empty && same(&mesh.bounds, &EMPTY_BOX), number, case, "refused and not the empty record");
         let blank = zero(&mesh.vertices) && mesh.triangles.iter().all(|&w| w == 0);
-        return tally.expect(empty && blank, number, case, "refused and not all zero");
+        return tally.expect(blank, number, case, "refused and not all zero");
     }
-    if of_mesh(mesh) != 0 {
-        return tally.expect(false, number, case, "not a mesh of finite vertices within its slices");
+    if !check_record(tally, number, case, mesh) {
+        return;
     }
     let (floats, numbers) = (mesh.counted_vertices().len(), mesh.counted_triangles().len());
     let blank = zero(&mesh.vertices[floats..]) && mesh.triangles[numbers..].iter().all(|&w| w == 0);
@@ -129,16 +145,35 @@ fn check_solid(tally: &mut Tally, number: usize, case: &Case, refusal: u32, mesh
     line[3] += closed_solid as usize * full;
 }
 
-/// Refused: nothing changed. Accepted: closed stays closed, sound stays sound, and places beyond the counts are untouched.
+/// Whether the counted vertices are within the slices and finite, and the counted triangles name them; then the box must be theirs, bit by bit.
+fn check_record(tally: &mut Tally, number: usize, case: &Case, mesh: &Lent) -> bool {
+    let whole = !mesh.broken() && !mesh.not_finite();
+    tally.expect(whole, number, case, "not a mesh of finite vertices within its slices");
+    if whole {
+        tally.expect(same(&mesh.bounds, &box_of(mesh)), number, case, "not the box of its vertices");
+        tally.boxes += 1;
+    }
+    whole
+}
+
+/// Refused, or a transform without operations: nothing changed. Else the box is that of the vertices, closed stays closed, sound stays sound,
+/// and places beyond the counts are untouched.
 fn check_edit(tally: &mut Tally, number: usize, case: &Case, refusal: u32, before: &Lent, other: &Lent, after: &Lent) {
-    let same = |x: &[f64], y: &[f64]| x.iter().zip(y).all(|(x, y)| x.to_bits() == y.to_bits());
-    if refusal != 0 {
+    let idle = case.what == TRANSFORM && case.ops.is_empty();
+    if refusal != 0 || idle {
         let counts = (before.vertex_count, before.triangle_count) == (after.vertex_count, after.triangle_count);
         let slices = same(&before.vertices, &after.vertices) && before.triangles == after.triangles;
-        return tally.expect(counts && slices, number, case, "refused and changed");
+        let unchanged = counts && same(&before.bounds, &after.bounds) && slices;
+        tally.expect(unchanged, number, case, "refused or without operations, and changed");
+        if refusal == 0 {
+            // Equal as floats: a bound may be −0.0.
+            let accepted = !after.broken() && !after.not_finite() && after.bounds == box_of(after);
+            tally.expect(accepted, number, case, "accepted with another box");
+        }
+        return;
     }
-    if of_mesh(after) != 0 {
-        return tally.expect(false, number, case, "not a mesh of finite vertices within its slices");
+    if !check_record(tally, number, case, after) {
+        return;
     }
     let (floats, numbers) = (after.counted_vertices().len(), after.counted_triangles().len());
     let untouched = same(&before.vertices[floats..], &after.vertices[floats..])
@@ -168,6 +203,7 @@ fn report(tally: &Tally, number: usize) {
             println!("{shape}\t{name}\t{n}");
         }
     }
+    println!("records\tbox of the vertices\t{}", tally.boxes);
     println!("edits\tclosed meshes that stayed closed\t{}", tally.kept);
     println!("failures\tall\t{}", tally.failures);
 }

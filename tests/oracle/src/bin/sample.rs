@@ -1,17 +1,18 @@
-//! `sample SEED > cases`: a small case file with every shape, call and refusal, the edges of the refusals on both sides, and
-//! angles at quarter points.
+//! `sample SEED > cases`: a small case file with every shape, call and refusal, the edges of the refusals on both sides, angles at
+//! quarter points, and boxes that are right or wrong in each way.
 //! It is a choice among the runs that `generate` makes: a run is kept where it shows what was not yet shown often enough.
 use oracle::calls::Meshes;
 use oracle::case::*;
 use oracle::generate::runs;
-use oracle::refusals::{op_angles, shape_angles};
+use oracle::reference::bounds_of;
+use oracle::refusals::{Lent, op_angles, shape_angles};
 use std::collections::HashMap;
 use std::f64::consts::FRAC_PI_2;
 use std::io::{self, BufWriter, Write};
 
 /// Runs looked at, and the most bytes of a run and its results.
 const LOOKED_AT: usize = 100_000;
-const MOST_BYTES: usize = 4_000;
+const MOST_BYTES: usize = 6_000;
 const MOST_BYTES_OF_A_LONG_LIST: usize = 26_000;
 
 fn main() -> io::Result<()> {
@@ -23,9 +24,10 @@ fn main() -> io::Result<()> {
         let mut after = meshes.clone();
         let (mut bytes, mut things) = (Vec::new(), Vec::new());
         for case in &run {
-            let start = bytes.len();
+            let (before, start) = (after.clone(), bytes.len());
             after.run(case, &mut bytes)?;
             things.extend(shows(case, &bytes[start..]));
+            things.extend(shows_box(case, &before, bytes[start])?);
             case.write(&mut bytes)?;
         }
         let long = things.iter().any(|t| t.contains("list"));
@@ -85,6 +87,63 @@ fn shows(case: &Case, result: &[u8]) -> Vec<String> {
         out.extend(quarter_points(case));
     }
     out
+}
+
+/// What an edit or a measure shows of boxes: how the boxes of its meshes are, and with a wrong one the refusal that it would have with the
+/// right one.
+fn shows_box(case: &Case, before: &Meshes, refusal: u8) -> io::Result<Vec<String>> {
+    if !matches!(case.what, APPEND | FLIP | TRANSFORM | MEASURE) {
+        return Ok(Vec::new());
+    }
+    let idle = if case.what == TRANSFORM && case.ops.is_empty() { ", no operations" } else { "" };
+    let (mut righted, mut result) = (before.clone(), Vec::new());
+    let mut out = Vec::new();
+    for (name, mesh) in [("A", &mut righted.a), ("B", &mut righted.b)] {
+        if mesh.broken() {
+            continue;
+        }
+        let not_finite = if mesh.not_finite() { ", vertices not finite" } else { "" };
+        let mut kind = kind_of_box(mesh);
+        if (mesh.not_finite() || !matches!(refusal, 0 | 8)) && !kind.starts_with("right") {
+            kind = "wrong";
+        }
+        mesh.bounds = bounds_of(mesh.counted_vertices());
+        if name == "A" || case.what == APPEND {
+            out.push(format!("{} {refusal}{idle} {name} {kind}{not_finite}", case.what));
+        }
+    }
+    righted.run(case, &mut result)?;
+    out.push(format!("{} {refusal}{idle} and {} with the right box", case.what, result[0]));
+    Ok(out)
+}
+
+/// How the box of a mesh is, whose counts are within its slices.
+fn kind_of_box(mesh: &Lent) -> &'static str {
+    let (found, right) = (&mesh.bounds, bounds_of(mesh.counted_vertices()));
+    let bits = |b: &Bounds| b.map(f64::to_bits);
+    let unequal: Vec<usize> = (0..6).filter(|&i| found[i] != right[i]).collect();
+    let exchanged = |i: usize| found[i] == right[(i + 3) % 6];
+    let next = |i: usize| found[i] == right[i].next_up() || found[i] == right[i].next_down();
+    match unequal[..] {
+        [] if bits(found) == bits(&right) => "right",
+        [] => "right, with -0.0",
+        _ if mesh.vertex_count == 0 && *found == [0.0; 6] => "zero, without vertices",
+        _ if found.iter().any(|x| x.is_nan()) => "NaN",
+        _ if *found == EMPTY_BOX => "empty",
+        [i] if found[i].is_infinite() => "infinite",
+        [i] if next(i) && found[i] > right[i] => "next above",
+        [i] if next(i) => "next below",
+        _ if unequal.len() > 1 && unequal.iter().all(|&i| exchanged(i)) => "exchanged",
+        _ if *found == used(mesh) => "of the triangles' vertices",
+        _ if mesh.vertices.len() >= 3 && *found == bounds_of(&mesh.vertices) => "of uncounted vertices too",
+        _ => "wrong",
+    }
+}
+
+/// The box of the vertices that triangles have.
+fn used(mesh: &Lent) -> Bounds {
+    let corner = |&v: &u32| &mesh.vertices[3 * v as usize..3 * v as usize + 3];
+    bounds_of(&mesh.counted_triangles().iter().flat_map(corner).copied().collect::<Vec<f64>>())
 }
 
 /// Where a mesh with triangles shows the sine and cosine of quarter points: its rotations, its angles, its segments.

@@ -1,11 +1,14 @@
 //! Runs of mesh calls: two meshes are made, then appended, flipped, transformed, measured and exchanged.
 use super::floats::{self, Style};
-use super::{operations, places, solids};
+use super::{boxes, operations, places, solids};
 use crate::case::*;
 use crate::rng::Rng;
 
 /// A run of calls. The meshes are loaded, or with `tessellated` mostly made by tessellate.
 pub fn calls(rng: &mut Rng, tessellated: bool) -> Vec<Case> {
+    if rng.one_in(12) {
+        return refused(rng);
+    }
     let mut out = Vec::new();
     // Now and then the meshes are those that an earlier run left, or none yet.
     if !rng.one_in(20) {
@@ -29,6 +32,51 @@ pub fn calls(rng: &mut Rng, tessellated: bool) -> Vec<Case> {
         }
     }
     out
+}
+
+/// Two meshes, of which one at least has a wrong box, and calls that mostly have a further reason for a refusal, so that the order of the
+/// checks shows. A refused call leaves the meshes, so that each call finds what was loaded.
+fn refused(rng: &mut Rng) -> Vec<Case> {
+    let mut meshes = [sound(rng, (12, 16)), sound(rng, (0, 0))];
+    let both = rng.one_in(4);
+    let first = rng.below(2);
+    for (i, mesh) in meshes.iter_mut().enumerate() {
+        boxes::claim(rng, mesh);
+        if both || i == first {
+            boxes::wrong(rng, mesh);
+        }
+        if rng.one_in(3) {
+            break_mesh(rng, mesh);
+        }
+    }
+    if rng.one_in(2) {
+        meshes.reverse();
+    }
+    let [a, b] = meshes;
+    let mut out = vec![b, call(EXCHANGE), a];
+    for _ in 0..rng.between(4, 12) {
+        out.push(match rng.below(8) {
+            0..=1 => call(APPEND),
+            2 => call(FLIP),
+            3..=5 => {
+                let mut case = call(TRANSFORM);
+                operations::refused(rng, &mut case);
+                case
+            }
+            6 => call(MEASURE),
+            _ => call(EXCHANGE),
+        });
+    }
+    out
+}
+
+/// A reason for 8 or for 1.
+fn break_mesh(rng: &mut Rng, case: &mut Case) {
+    match rng.below(3) {
+        0 => case.triangle_count = u32::MAX,
+        _ if case.vertex_count == 0 => case.vertex_count = u32::MAX,
+        _ => floats::spoil(rng, &mut case.list[..3 * case.vertex_count as usize]),
+    }
 }
 
 fn call(what: u8) -> Case {
@@ -60,8 +108,16 @@ fn made(rng: &mut Rng, tessellated: bool, more: (usize, usize), out: &mut Vec<Ca
     counts
 }
 
-/// A load of A: mostly a sound mesh, else each way of breaking one.
+/// A load of A: mostly a sound mesh with its box, else each way of breaking one.
 fn loaded(rng: &mut Rng, more: (usize, usize)) -> Case {
+    let mut case = sound(rng, more);
+    damage(rng, &mut case);
+    boxes::claim(rng, &mut case);
+    case
+}
+
+/// A mesh, sound where the numbers are finite and the slices long enough; it claims no box yet.
+fn sound(rng: &mut Rng, more: (usize, usize)) -> Case {
     let mut case = call(LOAD);
     let style = if rng.one_in(2) { Style::Ordinary } else { floats::style(rng) };
     let vertices = rng.between(0, 12);
@@ -73,16 +129,15 @@ fn loaded(rng: &mut Rng, more: (usize, usize)) -> Case {
     };
     (case.vertex_count, case.triangle_count) = (vertices as u32, case.triangles.len() as u32 / 3);
     let all = (vertices + more.0, case.triangle_count as usize + more.1);
-    (case.vertex_floats, case.triangle_numbers) = (
-        places::length(rng, all.0).min(places::MOST_VERTEX_FLOATS) as u32,
-        places::length(rng, all.1).min(places::MOST_TRIANGLE_NUMBERS) as u32,
-    );
-    if !rng.one_in(8) {
-        // Room for the mesh itself at least.
-        case.vertex_floats = case.vertex_floats.max(3 * case.vertex_count);
-        case.triangle_numbers = case.triangle_numbers.max(3 * case.triangle_count);
-    }
-    damage(rng, &mut case);
+    // Mostly room for the mesh itself at least, often for both.
+    let least = match rng.below(8) {
+        0 => (0, 0),
+        1..=4 => (vertices, case.triangle_count as usize),
+        _ => all,
+    };
+    let mut length = |n: usize, least: usize| places::length(rng, n).max(3 * least);
+    case.vertex_floats = length(all.0, least.0).min(places::MOST_VERTEX_FLOATS) as u32;
+    case.triangle_numbers = length(all.1, least.1).min(places::MOST_TRIANGLE_NUMBERS) as u32;
     case
 }
 

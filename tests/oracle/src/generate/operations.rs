@@ -24,6 +24,35 @@ pub fn operations(rng: &mut Rng, case: &mut Case) {
     }
 }
 
+/// One to three operations, mostly with a reason for 4, 1, 2 or 5, now and then none.
+pub fn refused(rng: &mut Rng, case: &mut Case) {
+    case.degrees = rng.below(2) as u8;
+    if rng.one_in(8) {
+        return;
+    }
+    let n = rng.between(1, 3);
+    case.ops = (0..n).map(|_| operation(rng, Style::Ordinary, case.degrees == 1)).collect();
+    let at = rng.below(n);
+    match rng.below(8) {
+        0 => case.ops.resize(17, case.ops[at].clone()),
+        1 => {
+            let kind = case.ops[at].kind as usize;
+            floats::spoil(rng, &mut case.ops[at].numbers[..OP_NUMBERS[kind]]);
+        }
+        2..=3 => {
+            case.ops[at] = Op { kind: rng.between(3, 5) as u8, ..Op::default() };
+            case.ops[at].numbers[0] = floats::sign(rng) * rng.pick(&[1000f64.next_up(), 1e6]);
+            case.degrees = 0;
+        }
+        4..=5 => {
+            case.ops = vec![Op { kind: 6, ..Op::default() }; n];
+            case.ops[at].numbers[0] = f64::MAX;
+            case.ops.iter_mut().for_each(|op| op.numbers[0] = op.numbers[0].max(2.0));
+        }
+        _ => (),
+    }
+}
+
 fn operation(rng: &mut Rng, style: Style, degrees: bool) -> Op {
     let mut op = Op { kind: rng.between(1, 8) as u8, ..Op::default() };
     let angle = if degrees { floats::degrees(rng) } else { floats::angle(rng) };

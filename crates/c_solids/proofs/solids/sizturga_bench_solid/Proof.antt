@@ -1,20 +1,23 @@
 -- `c_solids::solids::sizturga_bench_solid` meets its contract, by that of `tessellate::tessellate`. Assumes nothing.
-use borrow.Author.Needs.{needs}
 use Rattle.c_solids.proofs.Told.{tells}
+use borrow.Author.Needs.{needs}
 use Rattle.c_solids.proofs.solids.sizturga_bench_solid.Statement.{statement}
 use Rattle.c_solids.proofs.solids.sizturga_bench_solid.Tie as tie
 
 shape-of-requires : tie.Need-shape-of-requires
-shape-of-requires c κs = tt
+shape-of-requires c κs = search needs
 
 system-requires : tie.Need-system-requires
-system-requires c κs = tt
+system-requires c κs = search needs
 
 tessellate-requires : tie.Need-tessellate-requires
-tessellate-requires c κs = tt
+tessellate-requires c κs = search needs
+
+put-box-requires : tie.Need-put-box-requires
+put-box-requires c κs = search needs
 
 number-requires : tie.Need-number-requires
-number-requires c κs = tt
+number-requires c κs = search needs
 
 same-length : tie.Need-same-length
 same-length c = search needs
@@ -27,8 +30,10 @@ same-length-3 c = search needs
 
 returns : tie.Need-returns
 returns c =
-    rw (← c .before .before .before .before .before .before .before .before .before .before .before .before .system .ensures, ← c .before .before .before .before .before .before .before .before .before .before .before .before .before .shape-of .ensures)
-    (tells (c .before .before .before .before .before .before .before .before .tessellate .ensures .outcome) (c .number .ensures))
+    let a = c .before .before .before .before .before .before .before .before .before .before .before in
+    let b = a .before .before .before .before in
+    rw (← b .system .ensures, ← b .before .shape-of .ensures)
+    (tells (a .tessellate .ensures .outcome) (c .number .ensures) (c .before .put-box .ensures))
 
 pub sizturga-bench-solid-spec : {M : Type 1} → statement M
 sizturga-bench-solid-spec =
@@ -37,6 +42,7 @@ sizturga-bench-solid-spec =
     shape-of-requires
     system-requires
     tessellate-requires
+    put-box-requires
     number-requires
     same-length
     same-length-2

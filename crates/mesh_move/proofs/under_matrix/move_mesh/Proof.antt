@@ -1,4 +1,4 @@
--- `mesh_move::under_matrix::move_mesh` meets its contract: the vertices moved, and the triangles turned or not. Assumes nothing.
+-- `mesh_move::under_matrix::move_mesh` meets its contract: the vertices moved, the triangles turned or not, and the record of them. Assumes nothing.
 use denote.Ref.{now}
 use Rattle.mesh_check.specs.State.{state}
 use Rattle.mesh_move.proofs.Moving.{mirrored, only-moved}
@@ -15,6 +15,9 @@ determinant-requires c κs = search needs
 turn-all-requires : tie.Need-turn-all-requires
 turn-all-requires c κs = search needs
 
+record-of-requires : tie.Need-record-of-requires
+record-of-requires c κs = search needs
+
 same-length : tie.Need-same-length
 same-length c = search needs
 
@@ -23,24 +26,30 @@ same-length-2 c = search needs
 
 returns : tie.Need-returns
 returns c =
-    let c4 = c .before .before .before .before in
-    let c5 = c4 .before in
-    let c8 = c5 .before .before .before in
-    let c12 = c8 .before .before .before .before in
-    let a = c12 .args in
-    let s = state (a .counts) (now (a .vertices)) (now (a .triangles)) in
-    mirrored s (c12 .pre .sound) (a .a) (c5 .determinant .result) (c5 .determinant .ensures) _ (c8 .move-known .ensures) _ (c4 .if1 .taken) (c .before .before .turn-all .ensures)
+    let c5 = c .before .before .before .before .before in
+    let c6 = c5 .before in
+    let c9 = c6 .before .before .before in
+    let c13 = c9 .before .before .before .before in
+    let a = c13 .args in
+    let s = state (a .mesh) (now (a .vertices)) (now (a .triangles)) in
+    mirrored s (c13 .pre .sound) (a .a) (c6 .determinant .result) (c6 .determinant .ensures) _ (c9 .move-known .result) (c9 .move-known .ensures)
+    (c .record-of .result) (c .record-of .ensures) _ (c5 .if1 .taken) (c .before .before .before .turn-all .ensures)
+
+record-of-requires-2 : tie.Need-record-of-requires-2
+record-of-requires-2 c κs = search needs
 
 same-length-3 : tie.Need-same-length-3
 same-length-3 c = search needs
 
 returns-2 : tie.Need-returns-2
 returns-2 c =
-    let c4 = c .before .before .before .before in
-    let c8 = c4 .before .before .before .before in
-    let a = c8 .args in
-    let s = state (a .counts) (now (a .vertices)) (now (a .triangles)) in
-    only-moved s (c8 .pre .sound) (a .a) (c .before .determinant .result) (c .before .determinant .ensures) _ (c4 .move-known .ensures) (c .if1 .left)
+    let c2 = c .before .before in
+    let c5 = c2 .before .before .before in
+    let c9 = c5 .before .before .before .before in
+    let a = c9 .args in
+    let s = state (a .mesh) (now (a .vertices)) (now (a .triangles)) in
+    only-moved s (c9 .pre .sound) (a .a) (c2 .determinant .result) (c2 .determinant .ensures) _ (c5 .move-known .result) (c5 .move-known .ensures)
+    (c .record-of2 .result) (c .record-of2 .ensures) (c .before .if1 .left)
 
 pub move-mesh-spec : {M : Type 1} → statement M
 move-mesh-spec =
@@ -49,8 +58,10 @@ move-mesh-spec =
     move-known-requires
     determinant-requires
     turn-all-requires
+    record-of-requires
     same-length
     same-length-2
     returns
+    record-of-requires-2
     same-length-3
     returns-2)

@@ -14,7 +14,9 @@ record-of-requires : tie.Need-record-of-requires
 record-of-requires c κs = tt
 
 returns : tie.Need-returns
-returns c = c .record-of .ensures ∙ (λ i. recordOf (c .before .before .wide .ensures i) (c .before .wide2 .ensures i))
+returns c =
+    let h = c .before .before .before .before .args .h in
+    c .record-of .ensures ∙ (λ i. recordOf (c .before .before .wide .ensures i) (c .before .wide2 .ensures i) (h .bounds))
 
 pub claimed-mesh-spec : {M : Type 1} → statement M
 claimed-mesh-spec = tie.close (tie.spec wide-requires wide-requires-2 record-of-requires returns)

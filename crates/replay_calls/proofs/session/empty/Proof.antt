@@ -2,11 +2,11 @@
 use Rattle.replay_calls.proofs.session.empty.Statement.{statement}
 use Rattle.replay_calls.proofs.session.empty.Tie as tie
 
-record-of-requires : tie.Need-record-of-requires
-record-of-requires c κs = tt
+empty-record-requires : tie.Need-empty-record-requires
+empty-record-requires c κs = tt
 
 returns : tie.Need-returns
-returns c = λ i. record { mesh = c .record-of .ensures i; floats = 0; numbers = 0 }
+returns c = λ i. record { mesh = c .empty-record .ensures i; floats = 0; numbers = 0 }
 
 pub empty-spec : {M : Type 1} → statement M
-empty-spec = tie.close (tie.spec record-of-requires returns)
+empty-spec = tie.close (tie.spec empty-record-requires returns)

@@ -59,9 +59,13 @@ word-at-requires-9 c κs = search needs
 word-at-requires-10 : tie.Need-word-at-requires-10
 word-at-requires-10 c κs = search needs
 
+bounds-of-requires : tie.Need-bounds-of-requires
+bounds-of-requires c κs = search needs
+
 returns : tie.Need-returns
 returns c =
-    let c1 = c .before in
+    let c0 = c .before in
+    let c1 = c0 .before in
     let c2 = c1 .before in
     let c3 = c2 .before in
     let c4 = c3 .before in
@@ -72,7 +76,7 @@ returns c =
     let c9 = c8 .before in
     head-is (now (c9 .before .before .before .before .before .before .before .before .before .args .b)) (c9 .word-at .ensures) (c8 .word-at2 .ensures)
     (c7 .word-at3 .ensures) (c6 .word-at4 .ensures) (c5 .word-at5 .ensures)
-    (c4 .word-at6 .ensures) (c3 .word-at7 .ensures) (c2 .word-at8 .ensures) (c1 .word-at9 .ensures) (c .word-at10 .ensures)
+    (c4 .word-at6 .ensures) (c3 .word-at7 .ensures) (c2 .word-at8 .ensures) (c1 .word-at9 .ensures) (c0 .word-at10 .ensures) (c .bounds-of .ensures)
 
 pub head-of-spec : {M : Type 1} → statement M
 head-of-spec =
@@ -95,4 +99,5 @@ head-of-spec =
     word-at-requires-8
     word-at-requires-9
     word-at-requires-10
+    bounds-of-requires
     returns)

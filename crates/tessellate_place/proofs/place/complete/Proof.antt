@@ -22,9 +22,9 @@ place-requires c κs =
     let u = c .before .before .before .before in
     let b = u .before .before .before .before .before in
     let a = b .args in
-    let s = state (a .counts) (now (a .vertices)) (now (a .triangles)) in
-    let t = state (a .counts) (now (a .vertices)) (u .turn-rotated .last .1 .1 .1 .0) in
-    stored-whole (outwardIf (a .rotated) (meshOf s)) t s (u .turn-rotated .ensures) (outwardIf-there (a .rotated) (meshOf s) (b .pre .there)) .sound
+    let s = state (a .mesh) (now (a .vertices)) (now (a .triangles)) in
+    let t = state (a .mesh) (now (a .vertices)) (u .turn-rotated .last .1 .1 .1 .0) in
+    stored-whole (outwardIf (a .rotated) (meshOf s)) t s (u .turn-rotated .ensures) (outwardIf-there (a .rotated) (meshOf s) (b .pre .there)) .recorded
 
 same-length : tie.Need-same-length
 same-length c = search needs
@@ -37,8 +37,8 @@ returns c =
     let p = c .before .before .before .before in
     let u = p .before .before .before .before .before in
     let a = u .before .before .before .before .before .args in
-    let s = state (a .counts) (now (a .vertices)) (now (a .triangles)) in
-    let t = state (a .counts) (now (a .vertices)) (u .turn-rotated .last .1 .1 .1 .0) in
+    let s = state (a .mesh) (now (a .vertices)) (now (a .triangles)) in
+    let t = state (a .mesh) (now (a .vertices)) (u .turn-rotated .last .1 .1 .1 .0) in
     let e : meshOf t ≡ outwardIf (a .rotated) (meshOf s) = mesh-is (outwardIf (a .rotated) (meshOf s)) t s (u .turn-rotated .ensures) in
     makes-as
     (ap {B = Refusal} (placedRefusal (a .degrees) (a .ops) (a .op-count)) e)

@@ -25,7 +25,7 @@ returns : tie.Need-returns
 returns c =
     let f = c .before .before .stay-finite in
     let a = c .before .before .before .before .before .before .args in
-    let s = state (a .counts) (now (a .vertices)) (now (a .triangles)) in
+    let s = state (a .mesh) (now (a .vertices)) (now (a .triangles)) in
     makes-is (c .refused .ensures)
     (makes-as (moved-refused (a .a) s (f .result) (f .ensures) (not-true (f .result) (c .before .if1 .taken))) refl
     (makes-refused PointNotFinite (transform (a .a) (meshOf s)) (now (a .vertices)) (now (a .triangles)) refl))
@@ -48,10 +48,10 @@ returns-2 c =
     let e = m .before .before .before in
     let f = e .before .stay-finite in
     let a = e .before .before .before .before .before .args in
-    let s = state (a .counts) (now (a .vertices)) (now (a .triangles)) in
+    let s = state (a .mesh) (now (a .vertices)) (now (a .triangles)) in
     makes-is (c .accepted .ensures)
     (makes-as (moved-accepted (a .a) s (f .result) (f .ensures) (not-false (f .result) (e .if1 .left))) refl
-    (makes-accepted (transform (a .a) (meshOf s)) s (a .counts) _ _ (m .move-mesh .ensures)))
+    (makes-accepted (transform (a .a) (meshOf s)) s (m .move-mesh .result) _ _ (m .move-mesh .ensures)))
 
 pub moved-spec : {M : Type 1} → statement M
 moved-spec =

@@ -22,9 +22,9 @@ returns : tie.Need-returns
 returns c =
     let t = c .before .before .before .before in
     let a = t .args in
-    let s = state (a .counts) (now (a .vertices)) (now (a .triangles)) in
+    let s = state (a .mesh) (now (a .vertices)) (now (a .triangles)) in
     let p = placed-none (a .degrees) (a .ops) (a .op-count) (meshOf s) (eq-eqb (a .op-count) 0 (c .before .if1 .taken)) in
-    makes-is (c .accepted .ensures) (makes-as (p .0) (p .1) (makes-accepted (meshOf s) s (a .counts) (now (a .vertices)) (now (a .triangles)) (stored-self s (t .pre))))
+    makes-is (c .accepted .ensures) (makes-as (p .0) (p .1) (makes-accepted (meshOf s) s (a .mesh) (now (a .vertices)) (now (a .triangles)) (stored-self s (t .pre))))
 
 fold-requires : tie.Need-fold-requires
 fold-requires c κs = search needs
@@ -44,7 +44,7 @@ returns-2 c =
     let f = m .before .fold in
     let t = m .before .before .before .before in
     let a = t .before .before .before .args in
-    let s = state (a .counts) (now (a .vertices)) (now (a .triangles)) in
+    let s = state (a .mesh) (now (a .vertices)) (now (a .triangles)) in
     let p = placed-moves (a .degrees) (a .ops) (a .op-count) (meshOf s) (ne-eqb (a .op-count) 0 (t .if1 .left)) in
     makes-as
     (ap {B = Refusal} (λ (x : Mat4). movedRefusal x (meshOf s)) (f .ensures) ∙ p .0)

@@ -19,7 +19,7 @@ returns : tie.Need-returns
 returns c =
     let c4 = c .before .before .before .before in
     let a = c4 .before .before .before .args in
-    let s = state (a .counts) (now (a .vertices)) (now (a .triangles)) in
+    let s = state (a .mesh) (now (a .vertices)) (now (a .triangles)) in
     c .before .before .turn-outward .ensures
     ∙ sym (ap {B = State} (λ (b : Bool). stored (outwardIf b (meshOf s)) s) (c4 .if1 .taken))
 
@@ -27,7 +27,7 @@ returns-2 : tie.Need-returns-2
 returns-2 c =
     let c3 = c .before .before .before in
     let a = c3 .args in
-    let s = state (a .counts) (now (a .vertices)) (now (a .triangles)) in
+    let s = state (a .mesh) (now (a .vertices)) (now (a .triangles)) in
     stored-self s (c3 .pre)
     ∙ sym (ap {B = State} (λ (b : Bool). stored (outwardIf b (meshOf s)) s) (c .if1 .left))
 

@@ -1,0 +1,3 @@
+-- Laws of the box of vertices.
+pub mod Furthest
+pub mod Boxes
