@@ -126,7 +126,7 @@ def main():
                 # in a comment a name with a dash is one only in backquotes
                 w = re.sub(r"`[^`]*`", lambda q: TOKEN.sub(lambda x: names.get(x[0], x[0]) if x[0] not in kept else x[0], q[0][1:-1]).join("``"), w)
                 return re.sub(r"(?<![\w-])[a-z][a-z0-9]*[A-Z]\w*(?![\w-])", lambda x: names.get(x[0], x[0]) if x[0] not in kept else x[0], w)
-            if w.startswith('"') or w in kept:
+            if w.startswith('"') or w in kept or pattern is RUST and re.fullmatch(r"[a-z0-9_]+", w):
                 return w
             return names.get(w, w)
 

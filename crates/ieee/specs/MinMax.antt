@@ -1,12 +1,12 @@
 -- What the code of `is_finite`, `min`, `max` and `abs` computes. Assumes nothing.
-use Rattle.std.specs.Prelude.{◌≡◌, ℕ, zero, suc, ◌+◌, ◌-◌, ◌*◌, ◌<◌, Bool, true, false, cond, not, T, ℤ, ◌≢◌, is_nan, nat_lt}
+use Rattle.std.specs.Prelude.{◌≡◌, ℕ, zero, suc, ◌+◌, ◌-◌, ◌*◌, ◌<◌, Bool, true, false, cond, not, T, ℤ, ◌≢◌, nat_lt}
 use Rattle.std.proofs.Math.Path.{refl}
 use Rattle.std.proofs.Common.{sym, ap, ◌∙◌, subst, lt_of_lt_of_le, le-add_right, zero-mul, mul-pos, zero-lt-suc, arith, true≢false, ltb→lt, lt→ltb}
 use Rattle.std.proofs.Math.Nat.{sub_self}
 use Rattle.std.proofs.lemmas.Bool.{false≢true}
 use Rattle.std.specs.Prelude.{Float}
 use Rattle.std.specs.Float.{nan, inf, fin, Format}
-use Rattle.std.specs.Float.Ieee.{up, down, lt, eq, neg, sum, add, sub, round, fits}
+use Rattle.std.specs.Float.Ieee.{up, down, lt, eq, neg, sum, add, sub, round, fits, is_nan}
 use Rattle.std.specs.Float.Ieee.Fits.{up_pos}
 use Rattle.std.specs.Float.Ieee.Scale.{finite}
 use Rattle.ieee.specs.Unique.{zero_exp}

@@ -43,7 +43,7 @@ pub fn ceil_to_usize(y: f64) -> usize
 }
 
 // The whole number nearest to a, which is not negative, a half going up.
-fn half_up_lem(a: f64) -> u64
+fn half_up(a: f64) -> u64
     requires fact_1 { T (Ieee.le (fin false 0 (pos 0)) a) }
     requires fact_2 { T (Ieee.lt a (fin false 1 (pos 52))) }
     ensures fact_1 { result ≡ nearest_magnitude a }
@@ -81,7 +81,7 @@ pub fn nearest_whole(p: f64) -> Whole
 {
     if p < 0.0 {
         if p > -ALL_WHOLE {
-            let n = half_up_lem(-p);
+            let n = half_up(-p);
             Whole {
                 value: minus_as_float(n),
                 mod_4: minus_mod_4(n),
@@ -95,7 +95,7 @@ pub fn nearest_whole(p: f64) -> Whole
             Whole { value: p, mod_4: 0 }
         }
     } else if p < ALL_WHOLE {
-        let n = half_up_lem(p);
+        let n = half_up(p);
         Whole {
             value: as_float(n),
             mod_4: n % 4,

@@ -1,0 +1,11 @@
+-- `c_solids::meshes::sizturga_bench_flip` meets its contract, by that of `mesh::flip`. Assumes nothing.
+use Rattle.c_solids.proofs.Told.{boxed_record, leaves}
+use borrow.Author.Rules.{rules}
+use Rattle.c_solids.proofs.meshes.sizturga_bench_flip.Goals as goal
+
+pub returns : goal.returns
+returns c =
+    let a = c in
+    let b = a in
+    rw (← boxed_record b.record_of.ensures b.box_in.ensures)
+    (leaves a.flip-e.ensures c.number.ensures c.put_box.ensures)

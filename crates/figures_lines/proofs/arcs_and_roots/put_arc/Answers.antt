@@ -1,0 +1,13 @@
+-- `figures_lines::arcs_and_roots::put_arc` meets its contract. Assumes nothing.
+use borrow.Author.Rules.{rules}
+use Rattle.slice_text.specs.LineLaws.{then}
+use Rattle.figures_lines.proofs.arcs_and_roots.put_arc.Goals as goal
+
+pub returns : goal.returns
+returns c =
+    let p1 = c in
+    let p2 = p1 in
+    let p3 = p2 in
+    let p4 = p3 in
+    let p5 = p4 in
+    then p5.put-to.ensures (then p4.put-to-2.ensures (then p3.put-to-3.ensures (then p2.put_count-to.ensures p1.put.ensures)))

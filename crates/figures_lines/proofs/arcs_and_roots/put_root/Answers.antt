@@ -1,0 +1,16 @@
+-- `figures_lines::arcs_and_roots::put_root` meets its contract. Assumes nothing.
+use borrow.Author.Rules.{rules}
+use Rattle.slice_text.specs.LineLaws.{then}
+use Rattle.figures_lines.proofs.arcs_and_roots.put_root.Goals as goal
+
+pub returns : goal.returns
+returns c =
+    let p1 = c in
+    let p2 = p1 in
+    let p3 = p2 in
+    let p4 = p3 in
+    let p5 = p4 in
+    let p6 = p5 in
+    let p7 = p6 in
+    let rest = then p3.put-to-4.ensures (then p2.put_float-to.ensures p1.put.ensures) in
+    then p7.put-to.ensures (then p6.put-to-2.ensures (then p5.put-to-3.ensures (then p4.put_case-to.ensures rest)))

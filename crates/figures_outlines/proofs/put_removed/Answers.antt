@@ -1,0 +1,13 @@
+-- `figures_outlines::put_removed` meets its contract. Assumes nothing.
+use borrow.Author.Rules.{rules}
+use Rattle.slice_text.specs.LineLaws.{then}
+use Rattle.figures_outlines.proofs.put_removed.Goals as goal
+
+pub returns : goal.returns
+returns c =
+    let p1 = c in
+    let p2 = p1 in
+    let p3 = p2 in
+    let p4 = p3 in
+    let p5 = p4 in
+    then p5.put-to.ensures (then p4.put_count-to.ensures (then p3.put-to-2.ensures (then p2.put_count-to-2.ensures p1.put.ensures)))

@@ -1,0 +1,13 @@
+-- `figures_titles::put_sphere` meets its contract. Assumes nothing.
+use borrow.Author.Rules.{rules}
+use Rattle.slice_text.specs.LineLaws.{then}
+use Rattle.figures_titles.proofs.put_sphere.Goals as goal
+
+pub returns : goal.returns
+returns c =
+    let p1 = c in
+    let p2 = p1 in
+    let p3 = p2 in
+    let p4 = p3 in
+    let p5 = p4 in
+    then p5.put-to.ensures (then p4.put_point-to.ensures (then p3.put-to-2.ensures (then p2.put-to-3.ensures p1.put_fineness.ensures)))

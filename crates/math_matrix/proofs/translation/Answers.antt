@@ -1,0 +1,16 @@
+-- `math_matrix::translation` meets its contract. Assumes nothing.
+use borrow.Author.Rules.{rules}
+use lib.Ieee.{of_bits}
+use Rattle.math_matrix.specs.Mat.{translation}
+use Rattle.math_matrix.specs.MatLaws.{made}
+use Rattle.math_matrix.proofs.translation.Goals as goal
+
+pub returns : goal.returns
+unfolding translation of_bits
+returns c =
+    made
+    c.new_row.ensures
+    c.new_row-2.ensures
+    c.new_row-3.ensures
+    c.new_row-4.ensures
+    c.from_rows.ensures

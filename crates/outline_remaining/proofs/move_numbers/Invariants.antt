@@ -1,0 +1,11 @@
+-- `outline_remaining::move_numbers` meets its contract. Assumes nothing.
+use native.Mathlib.Omega.{arith}
+use Prim.Native.Nat.{◌≤◌, ◌-◌}
+use Rattle.outline_remaining.proofs.Taken.{Moving, moving_start, moving_next, moving_end}
+use Rattle.outline_remaining.proofs.move_numbers.Given as goal
+
+abbrev pub invariant-loop-i : goal.invariant-loop-i
+invariant-loop-i l = (l.k ≤ l.i) × (l.i ≤ l.last) × Moving l.k l.i l.initial.idx l.idx
+
+abbrev pub decreases-loop-i : goal.decreases-loop-i
+decreases-loop-i l = l.last - l.i

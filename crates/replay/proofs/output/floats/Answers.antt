@@ -1,0 +1,42 @@
+-- `replay::output::floats` is safe and ends: each block leaves fewer to write. Assumes nothing.
+use mathlib.Core.Path.{◌≡◌}
+use native.Mathlib.Omega.{arith}
+use Prim.Native.Nat.{ℕ, ◌≤◌, ◌-◌}
+use lib.ListN.{length, length-replicate}
+use Rattle.replay.proofs.output.floats.Goals as goal
+
+pub loop-i-init : goal.loop-i-init
+loop-i-init c = (omega arith, length-replicate {A = ℕ} 16384 0)
+
+pub offset_bounds-v-i : goal.offset_bounds-v-i
+offset_bounds-v-i c = omega arith
+
+pub slice_bounds-floats_block-count : goal.slice_bounds-floats_block-count
+slice_bounds-floats_block-count c = omega arith
+
+pub slice_bounds-floats_block-start : goal.slice_bounds-floats_block-start
+slice_bounds-floats_block-start c = omega arith
+
+pub slice_bounds-floats_block-end : goal.slice_bounds-floats_block-end
+slice_bounds-floats_block-end c = omega arith
+
+pub slice_bounds-floats_block-end-in-loop-i : goal.slice_bounds-floats_block-end-in-loop-i
+slice_bounds-floats_block-end-in-loop-i c = omega arith
+
+pub floats_block-n-requires : goal.floats_block-n-requires
+floats_block-n-requires c = tt
+
+pub returns-then-n-eq0 : goal.returns-then-n-eq0
+returns-then-n-eq0 c = tt
+
+pub overflow_add-i : goal.overflow_add-i
+overflow_add-i c = omega arith
+
+pub loop-i-smaller : goal.loop-i-smaller
+loop-i-smaller c = omega arith
+
+pub loop-i-preserved : goal.loop-i-preserved
+loop-i-preserved c = (omega arith, omega arith)
+
+pub returns : goal.returns
+returns c = tt

@@ -1,0 +1,11 @@
+-- `replay::steps::load` is safe: each part is within its slice. Assumes nothing.
+use native.Mathlib.Omega.{arith}
+use lib.ListN.{length-take}
+use borrow.Author.Rules.{rules}
+use Rattle.replay.proofs.steps.load.Goals as goal
+
+pub slice_bounds-load-end-2 : goal.slice_bounds-load-end-2
+slice_bounds-load-end-2 c = simp length-take (omega arith)
+
+pub slice_bounds-load-end-4 : goal.slice_bounds-load-end-4
+slice_bounds-load-end-4 c = simp length-take (omega arith)

@@ -1,0 +1,11 @@
+-- `root_whole::digits::root_by_digits` meets its contract. Assumes nothing.
+use Rattle.std.proofs.Common.{◌≡◌, ℕ, zero, suc, ◌+◌, ◌-◌, ◌*◌, ◌/◌, ◌^◌, ◌<◌, ◌≤◌, sym, refl, ap, ◌∙◌, ⊎_elim, lt_of_not-le, add-one, arith}
+use native.Mathlib.Nat.{pow-succ'}
+use Rattle.root_whole.proofs.Roots.{IsRoot, near_up, near_down, root_ge}
+use Rattle.root_whole.proofs.digits.root_by_digits.Given as goal
+
+abbrev pub invariant-loop-n : goal.invariant-loop-n
+invariant-loop-n l = Inv l.m l.n l.b l.q l.rest
+
+abbrev pub decreases-loop-n : goal.decreases-loop-n
+decreases-loop-n l = l.n

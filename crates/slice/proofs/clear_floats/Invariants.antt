@@ -1,0 +1,13 @@
+-- `slice::clear_floats` meets its contract. Assumes nothing.
+use Prim.Native.Nat.{ℕ, ◌+◌, ◌-◌}
+use native.Mathlib.Omega.{arith}
+use lib.ListN.{length, length-set}
+use lib.Ieee.{Float, binary64, of_bits}
+use Rattle.slice.specs.ClearedLaws.{Clearing, clearing_none, clearing_more, clearing_done}
+use Rattle.slice.proofs.clear_floats.Given as goal
+
+abbrev pub invariant-loop-k : goal.invariant-loop-k
+invariant-loop-k l = Clearing (of_bits binary64 0) l.from l.initial.s l.s l.k
+
+abbrev pub decreases-loop-k : goal.decreases-loop-k
+decreases-loop-k l = length l.initial.s - l.k

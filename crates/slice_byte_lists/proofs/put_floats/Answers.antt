@@ -1,0 +1,47 @@
+-- `slice_byte_lists::put_floats` meets its contract. Assumes nothing.
+use mathlib.Core.Path.{◌≡◌, refl, sym, ap, ◌∙◌}
+use native.Mathlib.Omega.{arith}
+use Prim.Native.Nat.{ℕ, ◌≤◌, ◌-◌}
+use lib.ListN.{length}
+use Rattle.slice_byte_lists.specs.Lists.{with_floats}
+use Rattle.slice_byte_lists.proofs.Loops.{with_floats_none, with_floats_more, with_long_length}
+use borrow.Author.Rules.{rules}
+use Rattle.slice_byte_lists.proofs.put_floats.Goals as goal
+
+pub loop-i-init : goal.loop-i-init
+loop-i-init c = (omega arith, refl, with_floats_none c.args.v.now c.args.b.now)
+
+pub overflow_mul-i : goal.overflow_mul-i
+overflow_mul-i c = omega arith
+
+pub offset_bounds-v-i : goal.offset_bounds-v-i
+offset_bounds-v-i c = omega arith
+
+pub bounds-v-i : goal.bounds-v-i
+bounds-v-i c = omega arith
+
+pub put_float-requires : goal.put_float-requires
+put_float-requires c = omega arith
+
+pub overflow_add-i : goal.overflow_add-i
+overflow_add-i c = omega arith
+
+pub loop-i-smaller : goal.loop-i-smaller
+loop-i-smaller c = omega arith
+
+pub loop-i-preserved : goal.loop-i-preserved
+loop-i-preserved c =
+    let s = c in
+    let l = c.loop-i in
+    let e = c.put_float.ensures in
+    (omega arith, ap length e ∙ with_long_length _ _ _ ∙ l.invariant.1, with_floats_more s.args.v.now s.args.b.now l.b _ l.i l.invariant.2 e)
+
+pub shape_of-b : goal.shape_of-b
+shape_of-b c = c.loop-i.invariant.1
+
+pub returns : goal.returns
+returns c =
+    let l = c.loop-i in
+    let s = c in
+    let e : l.i ≡ length s.args.v.now = omega arith in
+    l.invariant.2 ∙ ap (λ (n : ℕ). with_floats n s.args.v.now s.args.b.now) e

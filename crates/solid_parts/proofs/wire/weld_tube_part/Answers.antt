@@ -1,0 +1,33 @@
+-- `solid_parts::wire::weld_tube_part` meets its contract. Assumes nothing.
+use native.Mathlib.Omega.{arith}
+use lib.Ieee.{of_bits}
+use Rattle.solid_parts.proofs.PartRuns.{tube_part}
+use Rattle.solid_parts.proofs.wire.weld_tube_part.Goals as goal
+
+pub wire_point-a-requires : goal.wire_point-a-requires
+wire_point-a-requires c = omega (arith, c.requires.segments_bound.1)
+
+pub overflow_add-i : goal.overflow_add-i
+overflow_add-i c = omega (arith, c.requires.segments_bound.1)
+
+pub wire_point-b-requires : goal.wire_point-b-requires
+wire_point-b-requires c = omega (arith, c.requires.segments_bound.1)
+
+pub weld_cylinder-tube-requires : goal.weld_cylinder-tube-requires
+weld_cylinder-tube-requires c = record { ready = c.requires.ready; segments_bound = c.requires.segments_bound.0 }
+
+pub new_part-part-requires : goal.new_part-part-requires
+new_part-part-requires c = tt
+
+pub shape_of-vertices : goal.shape_of-vertices
+shape_of-vertices c = c.weld_cylinder-tube.ensures.vlong
+
+pub shape_of-triangles : goal.shape_of-triangles
+shape_of-triangles c = c.weld_cylinder-tube.ensures.tlong
+
+pub shape_of-work : goal.shape_of-work
+shape_of-work c = c.weld_cylinder-tube.ensures.wlong
+
+pub returns : goal.returns
+unfolding of_bits
+returns c = tube_part _ _ _ _ _ _ _ _ _ _ _ _ _ c.wire_point-a.ensures c.wire_point-b.ensures c.weld_cylinder-tube.ensures c.new_part-part.ensures

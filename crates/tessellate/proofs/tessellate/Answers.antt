@@ -1,0 +1,30 @@
+-- `tessellate::tessellate` meets its contract. Assumes nothing.
+use mathlib.Core.Path.{◌≡◌, ap}
+use lib.ListN.{length}
+use borrow.Author.Rules.{rules}
+use Rattle.mesh_made.specs.Made.{lent, Ending, made_as}
+use Rattle.mesh_made.proofs.Ending.{lent_same, gives_as, makes_lie, makes_gives}
+use Rattle.tessellate_spec.specs.Outcome.{job, final_mesh, refusal_of, tessellate_of}
+use Rattle.tessellate_law.specs.Promise.{promised}
+use Rattle.tessellate.proofs.Floats.{solid_fits}
+use Rattle.tessellate.proofs.tessellate.Goals as goal
+
+pub end-requires : goal.end-requires
+end-requires c = makes_lie _ _ _ _ _ c.make-made.ensures
+
+pub returns : goal.returns
+unfolding tessellate_of
+returns c =
+    let e = c in
+    let m = e in
+    let a = m.args in
+    let j = job a.shape a.list.now a.own a.default a.options a.degrees a.ops a.op-count in
+    let n = lent a.vertices.now a.triangles.now a.work.now in
+    let l = m.make-made.new.vertices in
+    let lv : length l.0 ≡ length a.vertices.now = e.vertices-1.given in
+    let lt : length l.1.0 ≡ length a.triangles.now = e.triangles-1.given in
+    let lw : length l.1.1.0 ≡ length a.work.now = e.work-1.given in
+    promised j n _ _ _ _ (solid_fits a.shape a.list.now _ m.well_formed.0 m.shared_slice_known-1.given)
+    (gives_as
+    (ap {B = Ending} (made_as (refusal_of j n) (final_mesh j)) (lent_same l.0 a.vertices.now l.1.0 a.triangles.now l.1.1.0 a.work.now lv lt lw))
+    (makes_gives (refusal_of j n) (final_mesh j) m.make-made.result l.0 l.1.0 l.1.1.0 m.make-made.ensures _ _ _ _ e.end.ensures))
