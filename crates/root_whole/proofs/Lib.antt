@@ -2,3 +2,4 @@
 pub mod Bounds
 pub mod Roots
 pub mod Neighbours
+pub mod Turns

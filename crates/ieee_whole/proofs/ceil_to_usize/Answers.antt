@@ -6,22 +6,20 @@ use Rattle.ieee.specs.Same.{true_T}
 use Rattle.ieee_whole.proofs.Ceiling.{Below, below, far_asks, far, past, not_above}
 use Rattle.ieee_whole.proofs.ceil_to_usize.Goals as goal
 
--- both tests passed: above zero, below 2 ^ 52
-small : (c : tie.Then2) → Below c.before.before.args.y
-unfolding of_bits
-small c = below c.before.before.args.y c.before.if1.true c.if2.true
-
 pub truncating_f64_to_u64-t-requires : goal.truncating_f64_to_u64-t-requires
-truncating_f64_to_u64-t-requires c = record { lower_bound = (small c).asks.0; upper_bound = (small c).asks.1 }
+unfolding of_bits
+truncating_f64_to_u64-t-requires c = record { lower_bound = (below c.args.y c.if-y.true c.if-y-2.true).asks.0; upper_bound = (below c.args.y c.if-y.true c.if-y-2.true).asks.1 }
 
 pub int_to_float-t : goal.int_to_float-t
+unfolding of_bits
 int_to_float-t c =
-    subst (λ (n : ℕ). T (Ieee.in_float binary64 (pos n))) (sym c.truncating_f64_to_u64-t.ensures) (small c).in_float_lem
+    subst (λ (n : ℕ). T (Ieee.in_float binary64 (pos n))) (sym c.truncating_f64_to_u64-t.ensures) (below c.args.y c.if-y.true c.if-y-2.true).in_float_lem
 
 pub overflow_add-result : goal.overflow_add-result
+unfolding of_bits
 overflow_add-result c =
     let e = c.truncating_f64_to_u64-t.ensures in
-    omega (arith, (small c).few)
+    omega (arith, (below c.args.y c.if-y.true c.if-y-2.true).few)
 
 pub truncating_f64_to_u64-requires : goal.truncating_f64_to_u64-requires
 unfolding of_bits
@@ -30,16 +28,18 @@ truncating_f64_to_u64-requires c =
      record { lower_bound = k.0; upper_bound = k.1 }
 
 pub returns-then-t-y : goal.returns-then-t-y
+unfolding of_bits
 returns-then-t-y c =
     let e = c.truncating_f64_to_u64-t.ensures in
     let y = c.args.y in
-    ap (λ (n : ℕ). n + 1) e ∙ (small c).rest (subst (λ (n : ℕ). Ieee.lt (Ieee.of_int binary64 (pos n)) y ≡ true) e c.if-t-y.true)
+    ap (λ (n : ℕ). n + 1) e ∙ (below c.args.y c.if-y.true c.if-y-2.true).rest (subst (λ (n : ℕ). Ieee.lt (Ieee.of_int binary64 (pos n)) y ≡ true) e c.if-t-y.true)
 
 pub returns-else-t-y : goal.returns-else-t-y
+unfolding of_bits
 returns-else-t-y c =
     let e = c.truncating_f64_to_u64-t.ensures in
     let y = c.args.y in
-    e ∙ (small c).none (subst (λ (n : ℕ). Ieee.lt (Ieee.of_int binary64 (pos n)) y ≡ false) e c.if-t-y.false)
+    e ∙ (below c.args.y c.if-y.true c.if-y-2.true).none (subst (λ (n : ℕ). Ieee.lt (Ieee.of_int binary64 (pos n)) y ≡ false) e c.if-t-y.false)
 
 pub returns-then-y-3 : goal.returns-then-y-3
 unfolding of_bits

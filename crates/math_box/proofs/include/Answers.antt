@@ -6,7 +6,7 @@ use Rattle.math_box.proofs.include.Goals as goal
 
 pub returns : goal.returns
 unfolding include v_min v_max
-returns c = record {
+returns c i = record {
   min = record {
     x = c.lesser.ensures i;
     y = c.lesser-2.ensures i;

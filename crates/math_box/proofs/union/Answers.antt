@@ -5,4 +5,4 @@ use Rattle.math_box.proofs.union.Goals as goal
 
 pub returns : goal.returns
 unfolding union
-returns c = record { min = c.min.ensures i; max = c.max.ensures i }
+returns c i = record { min = c.min.ensures i; max = c.max.ensures i }

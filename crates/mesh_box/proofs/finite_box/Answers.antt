@@ -48,7 +48,7 @@ plus_zero-requires c = tt
 
 pub returns : goal.returns
 unfolding finite_box
-returns c =
+returns c j =
     let l = c.loop-at in
     let a = c.args in
     record {

@@ -6,4 +6,4 @@ use Rattle.mesh_box.proofs.same_box.Goals as goal
 
 pub returns : goal.returns
 unfolding same_box
-returns c = c.same_point.ensures i && c.same_point-2.ensures i
+returns c i = c.same_point.ensures i && c.same_point-2.ensures i

@@ -29,7 +29,7 @@ returns-then-not-triangle_closed c =
     let t = a.t.now in
     let l = c.loop-i in
     let n = next_tris t l.i 0 (omega arith) in
-    let e = not-true c.triangle_closed.result c.if-not-triangle_closed.true in
+    let e = c.if-not-triangle_closed.true in
     let r = c.triangle_closed.result in
     closed_test m (tris t) false (every_fails (closed_triangle m (tris t)) (tris t) l.i (triple_at t l.i 0) r n c.triangle_closed.ensures e l.invariant)
 
@@ -46,7 +46,7 @@ loop-i-preserved c =
     let t = a.t.now in
     let l = c.loop-i in
     let n = next_tris t l.i 0 (omega arith) in
-    let e = not-false c.triangle_closed.result c.if-not-triangle_closed.false in
+    let e = c.if-not-triangle_closed.false in
     every_passes (closed_triangle m (tris t)) (tris t) l.i (triple_at t l.i 0) c.triangle_closed.result n c.triangle_closed.ensures e l.invariant
 
 pub returns : goal.returns

@@ -20,7 +20,7 @@ returns-then-not-is_accepted c =
     let s = state a.mesh a.vertices.now a.triangles.now in
     let r = c.check-checked in
     let e = boxed_refusal (check_of s) (bounding_box (mesh_of s)) r.result r.ensures in
-    let h : is_accepted r.result.refusal ≡ false = sym c.is_accepted.ensures ∙ not-true _ c.if-not-is_accepted.true in
+    let h : is_accepted r.result.refusal ≡ false = sym c.is_accepted.ensures ∙ c.if-not-is_accepted.true in
     measure_refused enclosed_volume s r.result.refusal e h
 
 pub volume_sum-requires : goal.volume_sum-requires
@@ -29,7 +29,7 @@ volume_sum-requires c =
     let s = state a.mesh a.vertices.now a.triangles.now in
     let r = c.check-checked in
     let e = boxed_refusal (check_of s) (bounding_box (mesh_of s)) r.result r.ensures in
-    let h : is_accepted r.result.refusal ≡ true = sym c.is_accepted.ensures ∙ not-false _ c.if-not-is_accepted.false in
+    let h : is_accepted r.result.refusal ≡ true = sym c.is_accepted.ensures ∙ c.if-not-is_accepted.false in
     all_within s (check_sound s r.result.refusal e h)
 
 pub returns : goal.returns
@@ -39,7 +39,7 @@ returns c =
     let s = state a.mesh a.vertices.now a.triangles.now in
     let r = c.check-checked in
     let e = boxed_refusal (check_of s) (bounding_box (mesh_of s)) r.result r.ensures in
-    let h : is_accepted r.result.refusal ≡ true = sym c.is_accepted.ensures ∙ not-false _ c.if-not-is_accepted.false in
+    let h : is_accepted r.result.refusal ≡ true = sym c.is_accepted.ensures ∙ c.if-not-is_accepted.false in
     let ok = check_sound s r.result.refusal e h in
     let x = c.volume_sum in
     let b = c.bits_of in

@@ -21,7 +21,7 @@ returns-then-not-is_accepted c =
     let s = state a.mesh a.vertices.now a.triangles.now in
     let m = a.op-count in
     let r = c.transform_refusal-refusal in
-    let h : is_accepted r.result ≡ false = sym c.is_accepted.ensures ∙ not-true _ c.if-not-is_accepted.true in
+    let h : is_accepted r.result ≡ false = sym c.is_accepted.ensures ∙ c.if-not-is_accepted.true in
     let q = transform_refusal a.ops m a.degrees s in
     let t = cond (eqb m 0) s (stored (transformed a.ops m a.degrees (mesh_of s)) s) in
     gives_kept q s t r.result r.ensures h
@@ -33,7 +33,7 @@ returns-then-op_count-eq0 c =
     let s = state a.mesh a.vertices.now a.triangles.now in
     let m = a.op-count in
     let r = c.transform_refusal-refusal in
-    let h : is_accepted r.result ≡ true = sym c.is_accepted.ensures ∙ not-false _ c.if-not-is_accepted.false in
+    let h : is_accepted r.result ≡ true = sym c.is_accepted.ensures ∙ c.if-not-is_accepted.false in
     let q = transform_refusal a.ops m a.degrees s in
     let t = cond (eqb m 0) s (stored (transformed a.ops m a.degrees (mesh_of s)) s) in
     let z = eq-eqb m 0 c.if-op_count-eq0.true in
@@ -44,7 +44,7 @@ move_mesh-after-requires c =
     let a = c.args in
     let s = state a.mesh a.vertices.now a.triangles.now in
     let r = c.transform_refusal-refusal in
-    let h : is_accepted r.result ≡ true = sym c.is_accepted.ensures ∙ not-false _ c.if-not-is_accepted.false in
+    let h : is_accepted r.result ≡ true = sym c.is_accepted.ensures ∙ c.if-not-is_accepted.false in
     record {
       sound = transform_sound s a.ops a.op-count a.degrees r.result r.ensures h;
       finite = λ u. (transform_finite s a.ops a.op-count a.degrees r.result r.ensures h).finite;
@@ -58,7 +58,7 @@ returns c =
     let m = a.op-count in
     let r = c.transform_refusal-refusal in
     let h : is_accepted r.result ≡ true = sym c.is_accepted.ensures
-    ∙ not-false _ c.if-not-is_accepted.false in
+    ∙ c.if-not-is_accepted.false in
     let q = transform_refusal a.ops m a.degrees s in
     let t = cond (eqb m 0) s (stored (transformed a.ops m a.degrees (mesh_of s)) s) in
     let z = ne_eqb m 0 c.if-op_count-eq0.false in

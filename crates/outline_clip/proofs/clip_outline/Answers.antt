@@ -32,7 +32,7 @@ returns-then-not-all_finite c =
     let m = length a.triangles.now in
     outcome_refused c.refused-then-not-all_finite.result _ m _ _ (c.clear_numbers.ensures ∙ cleared_all 0 a.triangles.now) (c.refused-then-not-all_finite.ensures m)
     (outcome_infinite v m c.if-list-gt1024.false c.if-list-eq1.false
-    (sym (every_all finite v) ∙ sym c.all_finite.ensures ∙ not-true _ c.if-not-all_finite.true))
+    (sym (every_all finite v) ∙ sym c.all_finite.ensures ∙ c.if-not-all_finite.true))
 
 pub returns-then-triangles-cut : goal.returns-then-triangles-cut
 returns-then-triangles-cut c =
@@ -41,7 +41,7 @@ returns-then-triangles-cut c =
     let m = length a.triangles.now in
     let cleared = c.clear_numbers in
     let l : length cleared.new.s ≡ m = cleared.auto.s in
-    let all = sym (every_all finite v) ∙ sym c.all_finite.ensures ∙ not-false _ c.if-not-all_finite.false in
+    let all = sym (every_all finite v) ∙ sym c.all_finite.ensures ∙ c.if-not-all_finite.false in
     outcome_refused c.refused-then-triangles-cut.result _ m _ _ (c.clear_numbers.ensures ∙ cleared_all 0 a.triangles.now) (c.refused-then-triangles-cut.ensures m)
     (outcome_room v m c.if-list-gt1024.false c.if-list-eq1.false all _ _ _
     c.triangulate_polygon-cut.ensures.0 (omega (arith, c.if-triangles-cut.true)))
@@ -53,8 +53,7 @@ returns c =
     let m = length a.triangles.now in
     let cleared = c.clear_numbers in
     let l : length cleared.new.s ≡ m = cleared.auto.s in
-    let all = sym (every_all finite v) ∙ sym c.all_finite.ensures ∙ not-false _
-    c.if-not-all_finite.false in
+    let all = sym (every_all finite v) ∙ sym c.all_finite.ensures ∙ c.if-not-all_finite.false in
     outcome_done v m c.if-list-gt1024.false
     c.if-list-eq1.false all _ _ _
     c.triangulate_polygon-cut.ensures.0 _ _ (omega (arith, c.if-triangles-cut.false))

@@ -8,7 +8,7 @@ pub returns-then-not-in_triangle : goal.returns-then-not-in_triangle
 returns-then-not-in_triangle c =
     let a = c.args in
     let v = a.v.now in
-    let w = in_triangle_at v a.o c.point_of-p.ensures a.eps a.t.a a.t.b a.t.c c.in_triangle.ensures (not-true _ c.if-not-in_triangle.true) in
+    let w = in_triangle_at v a.o c.point_of-p.ensures a.eps a.t.a a.t.b a.t.c c.in_triangle.ensures c.if-not-in_triangle.true in
     blocks_outside v a.eps a.t a.o w
 
 pub returns-then-o-t : goal.returns-then-o-t
@@ -66,5 +66,5 @@ returns c =
     let sb = same_at v a.o s.point_of-p.ensures a.t.b c.same-2.ensures c.if-same-2.false in
     let sc = same_at v a.o s.point_of-p.ensures a.t.c c.same-3.ensures c.if-same-3.false in
     let w = in_triangle_at v a.o s.point_of-p.ensures a.eps a.t.a a.t.b a.t.c l.in_triangle.ensures
-    (not-false _ l.if-not-in_triangle.false) in
+    l.if-not-in_triangle.false in
     blocks_all v a.eps a.t a.o l.if-o-t.false l.if-o-t-2.false l.if-o-t-3.false sa sb sc w

@@ -1,20 +1,20 @@
 -- `root::odd_root` meets its contract. Assumes nothing.
-use mathlib.Core.Path.{sym, ap, ◌∙◌, subst}
-use mathlib.Core.Bool.{false}
+use mathlib.Core.Path.{◌≡◌, sym, ap, ◌∙◌, subst}
+use mathlib.Core.Bool.{true, false}
 use Prim.Native.Nat.{ℕ, ◌+◌, ◌/◌, ◌^◌}
 use native.Mathlib.Omega.{arith}
 use borrow.Author.Rules.{rules}
 use lib.Dec.{T}
-use lib.Ieee.{binary64, units}
+use lib.Ieee.{Float, binary64, fits, to_bits, units}
+use Rattle.root_case.specs.Case.{root_case}
+use Rattle.root_case.specs.declared.RootCase.TheVariants.{OddExponent}
 use Rattle.root_case.proofs.Laws.{odd_is}
 use Rattle.root.proofs.Cases.{Normal, odd_units}
 use Rattle.root.proofs.odd_root.Goals as goal
 
 -- what the case says of the pattern
-told : (c : tie.After-bits-of) → Normal 0 c.bits_of.result
-told c =
-    let s = c.before in
-    subst (Normal 0) (sym c.bits_of.ensures) (odd_is s.args.x (subst T (sym s.well-formed.0.1) tt) s.requires)
+told : (x : Float) (b : ℕ) → b ≡ to_bits binary64 x → fits binary64 x ≡ true → root_case x ≡ OddExponent → Normal 0 b
+told x b e f h = subst (Normal 0) (sym e) (odd_is x (subst T (sym f) tt) h)
 
 pub overflow_add-significand : goal.overflow_add-significand
 overflow_add-significand c = omega arith
@@ -29,7 +29,7 @@ pub overflow_add-b : goal.overflow_add-b
 overflow_add-b c = omega arith
 
 pub of_digits-requires : goal.of_digits-requires
-of_digits-requires c = (c.near_root-q.ensures.1, c.near_root-q.ensures.2, omega (arith, (told c).1))
+of_digits-requires c = (c.near_root-q.ensures.1, c.near_root-q.ensures.2, omega (arith, (told c.args.x c.bits_of-b.result c.bits_of-b.ensures c.well_formed.0.1 c.requires).1))
 
 pub returns : goal.returns
 returns c =
@@ -37,4 +37,4 @@ returns c =
     let k = (p.bits_of-b.result / 2 ^ 52 + 1020) / 2 in
     c.of_digits.ensures
     ∙ ap (λ (q : ℕ). units binary64 false q k) c.near_root-q.ensures.0
-    ∙ sym (odd_units p.args.x p.bits_of-b.result p.bits_of-b.ensures (told p))
+    ∙ sym (odd_units p.args.x p.bits_of-b.result p.bits_of-b.ensures (told p.args.x p.bits_of-b.result p.bits_of-b.ensures p.well_formed.0.1 p.requires))

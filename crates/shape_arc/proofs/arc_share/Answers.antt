@@ -13,4 +13,4 @@ int_to_float-full c = of_nat_in _ (omega (arith, c.larger-full.ensures))
 
 pub returns : goal.returns
 unfolding arc_share
-returns c = div binary64 (mul binary64 (of_int binary64 (pos (c.larger-full.ensures i))) (c.counted_span.ensures i)) tau
+returns c i = div binary64 (mul binary64 (of_int binary64 (pos (c.larger-full.ensures i))) (c.counted_span.ensures i)) tau

@@ -30,7 +30,7 @@ returns-then-not-drawn c =
     let a = w.args in
     let j = job a.shape a.list.now a.own a.default a.options a.degrees a.ops a.op-count in
     let n = lent a.vertices.now a.triangles.now a.work.now in
-    let no : is_accepted k.result ≡ false = sym c.is_accepted-drawn.ensures ∙ not-true _ c.if-not-drawn.true in
+    let no : is_accepted k.result ≡ false = sym c.is_accepted-drawn.ensures ∙ c.if-not-drawn.true in
     makes_is c.refused-then-not-drawn.ensures
     (makes_as (k.ensures ∙ at_drawing j n (sym w.short_work-short.ensures ∙ c.if-short.false) (sym (ap {B = Bool} is_accepted k.ensures) ∙ no)) refl
     (makes_refused k.result (final_mesh j) a.vertices.now a.triangles.now no))
@@ -42,7 +42,7 @@ draw-requires c =
     let k = e.check_drawing-refusal in
     record {
       work = sym e.short_work-short.ensures ∙ e.if-short.false;
-      drawing = sym k.ensures ∙ accepted_is k.result (sym e.is_accepted-drawn.ensures ∙ not-false _ e.if-not-drawn.false);
+      drawing = sym k.ensures ∙ accepted_is k.result (sym e.is_accepted-drawn.ensures ∙ e.if-not-drawn.false);
     }
 
 pub returns : goal.returns

@@ -25,7 +25,7 @@ returns-then-not-is_accepted c =
     let ts = d.weld_all-made.new.triangles in
     let M = in_system j n d.weld_all-made.result vs ts d.shape_cs.result d.is_cylindrical-cylindrical.result
     d.shape_cs.ensures d.is_cylindrical-cylindrical.ensures d.weld_all-made.ensures in
-    parts_refused j n d.weld_all-made.result vs ts s.requires M (sym c.is_accepted.ensures ∙ not-true _ c.if-not-is_accepted.true)
+    parts_refused j n d.weld_all-made.result vs ts s.requires M (sym c.is_accepted.ensures ∙ c.if-not-is_accepted.true)
 
 pub complete-requires : goal.complete-requires
 complete-requires c =
@@ -38,7 +38,7 @@ complete-requires c =
     let ts = d.weld_all-made.new.triangles in
     let M = in_system j n d.weld_all-made.result vs ts d.shape_cs.result d.is_cylindrical-cylindrical.result
     d.shape_cs.ensures d.is_cylindrical-cylindrical.ensures d.weld_all-made.ensures in
-    whole j n d.weld_all-made.result vs ts s.requires M (sym c.is_accepted.ensures ∙ not-false _ c.if-not-is_accepted.false)
+    whole j n d.weld_all-made.result vs ts s.requires M (sym c.is_accepted.ensures ∙ c.if-not-is_accepted.false)
 
 pub returns : goal.returns
 returns c =
@@ -51,5 +51,5 @@ returns c =
     let ts = d.weld_all-made.new.triangles in
     let M = in_system j n d.weld_all-made.result vs ts d.shape_cs.result d.is_cylindrical-cylindrical.result
     d.shape_cs.ensures d.is_cylindrical-cylindrical.ensures d.weld_all-made.ensures in
-    completed j n d.weld_all-made.result vs ts s.requires M (sym c.is_accepted.ensures ∙ not-false _ c.if-not-is_accepted.false)
+    completed j n d.weld_all-made.result vs ts s.requires M (sym c.is_accepted.ensures ∙ c.if-not-is_accepted.false)
     d.is_rot_poly-rotated.result d.is_rot_poly-rotated.ensures _ _ _ c.complete.ensures

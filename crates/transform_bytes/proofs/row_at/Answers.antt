@@ -3,7 +3,7 @@ use borrow.Author.Rules.{rules}
 use Rattle.transform_bytes.proofs.row_at.Goals as goal
 
 pub returns : goal.returns
-returns c =
+returns c i =
     record {
       x = c.float_at.ensures i;
       y = c.float_at-2.ensures i;

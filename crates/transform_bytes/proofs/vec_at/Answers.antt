@@ -3,4 +3,4 @@ use borrow.Author.Rules.{rules}
 use Rattle.transform_bytes.proofs.vec_at.Goals as goal
 
 pub returns : goal.returns
-returns c = record { x = c.float_at.ensures i; y = c.float_at-2.ensures i; z = c.float_at-3.ensures i }
+returns c i = record { x = c.float_at.ensures i; y = c.float_at-2.ensures i; z = c.float_at-3.ensures i }

@@ -36,14 +36,14 @@ pub returns-then-not-finite : goal.returns-then-not-finite
 returns-then-not-finite c =
     let s = c in
     let h = held s.args.w s.args.vertices.now s.args.triangles.now s.args.work.now in
-    let f = not-true _ c.if-not-finite.true in
+    let f = c.if-not-finite.true in
     numbered_stopped _ s.args.a s.args.b s.args.c s.args.d h c.unnumbered.result _ _ _ (ap (λ (w : Welder). w.finite) c.unnumbered.ensures ∙ f)
     (rw c.unnumbered.ensures (runs_stopped _ h s.requires f))
 
 pub weld_last-t-requires : goal.weld_last-t-requires
 weld_last-t-requires c =
     let s = c in
-    let f = not-false _ c.if-not-finite.false in
+    let f = c.if-not-finite.false in
     let r = c.if-room.true in
     let k = c.are_at.ensures.1 c.if-are_at.true in
     let small = known_small s.args.w s.args.vertices.now s.args.work.now in  record { ready = s.requires; finite_value = (
@@ -66,27 +66,27 @@ returns-then-not-are_finite c =
     let e = c.unnumbered-then-not-are_finite.ensures ∙ c.stopped.ensures in
     numbered_stopped _ s.args.a s.args.b s.args.c s.args.d _ c.unnumbered-then-not-are_finite.result _ _ _ (ap (λ (w : Welder). w.finite) e)
     (rw e (quad_stops s.args.w s.args.vertices.now s.args.triangles.now s.args.work.now s.args.a s.args.b s.args.c s.args.d s.requires
-    (sym c.are_finite.ensures ∙ not-true _ c.if-not-are_finite.true)))
+    (sym c.are_finite.ensures ∙ c.if-not-are_finite.true)))
 
 pub plus_zero-requires : goal.plus_zero-requires
 plus_zero-requires c =
     let s = c in
-    all_first (v_finite s.args.a) (v_finite s.args.b) (v_finite s.args.c) (v_finite s.args.d) (sym c.are_finite.ensures ∙ not-false _ c.if-not-are_finite.false)
+    all_first (v_finite s.args.a) (v_finite s.args.b) (v_finite s.args.c) (v_finite s.args.d) (sym c.are_finite.ensures ∙ c.if-not-are_finite.false)
 
 pub plus_zero-requires-2 : goal.plus_zero-requires-2
 plus_zero-requires-2 c =
     let s = c in
-    all_second (v_finite s.args.a) (v_finite s.args.b) (v_finite s.args.c) (v_finite s.args.d) (sym c.are_finite.ensures ∙ not-false _ c.if-not-are_finite.false)
+    all_second (v_finite s.args.a) (v_finite s.args.b) (v_finite s.args.c) (v_finite s.args.d) (sym c.are_finite.ensures ∙ c.if-not-are_finite.false)
 
 pub plus_zero-requires-3 : goal.plus_zero-requires-3
 plus_zero-requires-3 c =
     let s = c in
-    all_third (v_finite s.args.a) (v_finite s.args.b) (v_finite s.args.c) (v_finite s.args.d) (sym c.are_finite.ensures ∙ not-false _ c.if-not-are_finite.false)
+    all_third (v_finite s.args.a) (v_finite s.args.b) (v_finite s.args.c) (v_finite s.args.d) (sym c.are_finite.ensures ∙ c.if-not-are_finite.false)
 
 pub plus_zero-requires-4 : goal.plus_zero-requires-4
 plus_zero-requires-4 c =
     let s = c in
-    all_last (v_finite s.args.a) (v_finite s.args.b) (v_finite s.args.c) (v_finite s.args.d) (sym c.are_finite.ensures ∙ not-false _ c.if-not-are_finite.false)
+    all_last (v_finite s.args.a) (v_finite s.args.b) (v_finite s.args.c) (v_finite s.args.d) (sym c.are_finite.ensures ∙ c.if-not-are_finite.false)
 
 pub returns : goal.returns
 returns c =
@@ -95,7 +95,7 @@ returns c =
     let b = v_finite s.args.b in
     let g = v_finite s.args.c in
     let d = v_finite s.args.d in
-    let f = sym c.are_finite.ensures ∙ not-false _ c.if-not-are_finite.false in
+    let f = sym c.are_finite.ensures ∙ c.if-not-are_finite.false in
     quad_numbered s.args.a s.args.b s.args.c s.args.d _ _ _ _ _ c.weld_both.result _ _ _ (all_first a b g d f) (all_second a b g d f) (all_third a b g d f)
     (all_last a b g d f) c.plus_zero.ensures.0 c.plus_zero-2.ensures.0 c.plus_zero-3.ensures.0 c.plus_zero-4.ensures.0
     c.weld_both.ensures

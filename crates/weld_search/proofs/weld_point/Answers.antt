@@ -10,13 +10,13 @@ use Rattle.weld_search.proofs.weld_point.Goals as goal
 pub returns-then-not-room : goal.returns-then-not-room
 returns-then-not-room c =
     let s = c in
-    point_shut s.args.w s.args.vertices.now s.args.work.now s.requires.0 s.args.p (not-true _ c.if-not-room.true)
+    point_shut s.args.w s.args.vertices.now s.args.work.now s.requires.0 s.args.p c.if-not-room.true
 
 pub returns-then-is_at : goal.returns-then-is_at
 returns-then-is_at c =
     let s = c in
     let e = at_yes s.args.vertices.now s.args.w.base s.args.w.count s.args.p s.args.guess (sym c.is_at.ensures ∙ c.if-is_at.true) in
-    point_at s.args.w s.args.vertices.now s.args.work.now s.requires.0 s.args.p s.args.guess (not-false _ c.if-not-room.false)
+    point_at s.args.w s.args.vertices.now s.args.work.now s.requires.0 s.args.p s.args.guess c.if-not-room.false
     (first_at s.args.vertices.now s.args.w.places s.args.w.base s.args.w.count s.requires.0.distinct s.args.p
     s.requires.1 s.args.guess e.0 e.1 e.2)
 

@@ -36,7 +36,7 @@ returns-then-not-is_accepted c =
     let l = c in
     let r = c.field_refusal-r in
     refused l.args.file.now l.loop-at.at l.loop-at.solid l.loop-at.invariant (omega arith) r.result r.ensures
-    (sym c.is_accepted.ensures ∙ not-true _ c.if-not-is_accepted.true)
+    (sym c.is_accepted.ensures ∙ c.if-not-is_accepted.true)
 
 pub is_solid-solid-requires : goal.is_solid-solid-requires
 is_solid-solid-requires c = tt
@@ -47,7 +47,7 @@ overflow_add-at c = omega arith
 pub size_of-requires : goal.size_of-requires
 size_of-requires c =
     let r = c.field_refusal-r in
-    let accepted = accepted_is r.result (sym c.is_accepted.ensures ∙ not-false _ c.if-not-is_accepted.false) in
+    let accepted = accepted_is r.result (sym c.is_accepted.ensures ∙ c.if-not-is_accepted.false) in
     omega (arith, fits _ _ (sym r.ensures ∙ accepted))
 
 pub overflow_add-at-in-loop-at : goal.overflow_add-at-in-loop-at
@@ -60,7 +60,7 @@ pub loop-at-preserved : goal.loop-at-preserved
 loop-at-preserved c =
     let l = c in
     let r = c.field_refusal-r in
-    let accepted = accepted_is r.result (sym c.is_accepted.ensures ∙ not-false _ c.if-not-is_accepted.false) in
+    let accepted = accepted_is r.result (sym c.is_accepted.ensures ∙ c.if-not-is_accepted.false) in
     step l.args.file.now l.loop-at.at l.loop-at.solid l.loop-at.invariant (omega arith) r.result r.ensures
     c.size_of.result c.is_solid-solid.result c.size_of.ensures.0 c.is_solid-solid.ensures accepted
 

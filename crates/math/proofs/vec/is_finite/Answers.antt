@@ -6,4 +6,4 @@ use Rattle.math.proofs.vec.is_finite.Goals as goal
 
 pub returns : goal.returns
 unfolding v_finite
-returns c = c.is_finite.ensures i && c.is_finite-2.ensures i && c.is_finite-3.ensures i
+returns c i = c.is_finite.ensures i && c.is_finite-2.ensures i && c.is_finite-3.ensures i

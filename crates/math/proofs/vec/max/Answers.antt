@@ -5,4 +5,4 @@ use Rattle.math.proofs.vec.max.Goals as goal
 
 pub returns : goal.returns
 unfolding v_max
-returns c = record { x = c.max.ensures i; y = c.max-2.ensures i; z = c.max-3.ensures i }
+returns c i = record { x = c.max.ensures i; y = c.max-2.ensures i; z = c.max-3.ensures i }

@@ -5,4 +5,4 @@ use Rattle.math.proofs.vec.min.Goals as goal
 
 pub returns : goal.returns
 unfolding v_min
-returns c = record { x = c.min.ensures i; y = c.min-2.ensures i; z = c.min-3.ensures i }
+returns c i = record { x = c.min.ensures i; y = c.min-2.ensures i; z = c.min-3.ensures i }

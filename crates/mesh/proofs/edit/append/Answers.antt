@@ -29,7 +29,7 @@ returns-then-not-is_accepted c =
     let b = bounding_box (append (mesh_of s) (mesh_of o)) in
     let r = p.check_append-checked in
     let e = boxed_refusal (append_refusal s o) b r.result r.ensures in
-    let h : is_accepted r.result.refusal ≡ false = sym p.is_accepted.ensures ∙ not-true _ p.if-not-is_accepted.true in
+    let h : is_accepted r.result.refusal ≡ false = sym p.is_accepted.ensures ∙ p.if-not-is_accepted.true in
     gives_kept (append_refusal s o) s (stored (append (mesh_of s) (mesh_of o)) s) r.result.refusal e h
 
 pub overflow_mul-n : goal.overflow_mul-n
@@ -41,7 +41,7 @@ overflow_mul-n c =
     let b = bounding_box (append (mesh_of s) (mesh_of o)) in
     let r = p.check_append-checked in
     let e = boxed_refusal (append_refusal s o) b r.result r.ensures in
-    let h : is_accepted r.result.refusal ≡ true = sym p.is_accepted.ensures ∙ not-false _ p.if-not-is_accepted.false in
+    let h : is_accepted r.result.refusal ≡ true = sym p.is_accepted.ensures ∙ p.if-not-is_accepted.false in
     let w = appends s o r.result.refusal e h in
     omega (arith, w.limit, w.limit_t)
 
@@ -54,7 +54,7 @@ overflow_mul-more_n c =
     let b = bounding_box (append (mesh_of s) (mesh_of o)) in
     let r = p.check_append-checked in
     let e = boxed_refusal (append_refusal s o) b r.result r.ensures in
-    let h : is_accepted r.result.refusal ≡ true = sym p.is_accepted.ensures ∙ not-false _ p.if-not-is_accepted.false in
+    let h : is_accepted r.result.refusal ≡ true = sym p.is_accepted.ensures ∙ p.if-not-is_accepted.false in
     let w = appends s o r.result.refusal e h in
     omega (arith, w.limit, w.limit_t)
 
@@ -67,7 +67,7 @@ copy-requires c =
     let b = bounding_box (append (mesh_of s) (mesh_of o)) in
     let r = p.check_append-checked in
     let e = boxed_refusal (append_refusal s o) b r.result r.ensures in
-    let h : is_accepted r.result.refusal ≡ true = sym p.is_accepted.ensures ∙ not-false _ p.if-not-is_accepted.false in
+    let h : is_accepted r.result.refusal ≡ true = sym p.is_accepted.ensures ∙ p.if-not-is_accepted.false in
     let w = appends s o r.result.refusal e h in
     omega (arith, w.vertices, w.fine.vertices)
 
@@ -80,7 +80,7 @@ overflow_mul-k c =
     let b = bounding_box (append (mesh_of s) (mesh_of o)) in
     let r = p.check_append-checked in
     let e = boxed_refusal (append_refusal s o) b r.result r.ensures in
-    let h : is_accepted r.result.refusal ≡ true = sym p.is_accepted.ensures ∙ not-false _ p.if-not-is_accepted.false in
+    let h : is_accepted r.result.refusal ≡ true = sym p.is_accepted.ensures ∙ p.if-not-is_accepted.false in
     let w = appends s o r.result.refusal e h in
     omega (arith, w.limit, w.limit_t)
 
@@ -93,7 +93,7 @@ overflow_mul-more_k c =
     let b = bounding_box (append (mesh_of s) (mesh_of o)) in
     let r = p.check_append-checked in
     let e = boxed_refusal (append_refusal s o) b r.result r.ensures in
-    let h : is_accepted r.result.refusal ≡ true = sym p.is_accepted.ensures ∙ not-false _ p.if-not-is_accepted.false in
+    let h : is_accepted r.result.refusal ≡ true = sym p.is_accepted.ensures ∙ p.if-not-is_accepted.false in
     let w = appends s o r.result.refusal e h in
     omega (arith, w.limit, w.limit_t)
 
@@ -106,7 +106,7 @@ overflow_cast-n c =
     let b = bounding_box (append (mesh_of s) (mesh_of o)) in
     let r = p.check_append-checked in
     let e = boxed_refusal (append_refusal s o) b r.result r.ensures in
-    let h : is_accepted r.result.refusal ≡ true = sym p.is_accepted.ensures ∙ not-false _ p.if-not-is_accepted.false in
+    let h : is_accepted r.result.refusal ≡ true = sym p.is_accepted.ensures ∙ p.if-not-is_accepted.false in
     let w = appends s o r.result.refusal e h in
     omega (arith, w.limit, w.limit_t)
 
@@ -119,7 +119,7 @@ copy_up-requires c =
     let b = bounding_box (append (mesh_of s) (mesh_of o)) in
     let r = p.check_append-checked in
     let e = boxed_refusal (append_refusal s o) b r.result r.ensures in
-    let h : is_accepted r.result.refusal ≡ true = sym p.is_accepted.ensures ∙ not-false _ p.if-not-is_accepted.false in
+    let h : is_accepted r.result.refusal ≡ true = sym p.is_accepted.ensures ∙ p.if-not-is_accepted.false in
     let w = appends s o r.result.refusal e h in
     (omega (arith, w.triangles), omega (arith, w.fine.triangles), λ i q. w.fits i (omega arith))
 
@@ -132,7 +132,7 @@ overflow_add-n c =
     let b = bounding_box (append (mesh_of s) (mesh_of o)) in
     let r = p.check_append-checked in
     let e = boxed_refusal (append_refusal s o) b r.result r.ensures in
-    let h : is_accepted r.result.refusal ≡ true = sym p.is_accepted.ensures ∙ not-false _ p.if-not-is_accepted.false in
+    let h : is_accepted r.result.refusal ≡ true = sym p.is_accepted.ensures ∙ p.if-not-is_accepted.false in
     let w = appends s o r.result.refusal e h in
     omega (arith, w.limit, w.limit_t)
 
@@ -145,7 +145,7 @@ overflow_add-k c =
     let b = bounding_box (append (mesh_of s) (mesh_of o)) in
     let r = p.check_append-checked in
     let e = boxed_refusal (append_refusal s o) b r.result r.ensures in
-    let h : is_accepted r.result.refusal ≡ true = sym p.is_accepted.ensures ∙ not-false _ p.if-not-is_accepted.false in
+    let h : is_accepted r.result.refusal ≡ true = sym p.is_accepted.ensures ∙ p.if-not-is_accepted.false in
     let w = appends s o r.result.refusal e h in
     omega (arith, w.limit, w.limit_t)
 
@@ -159,7 +159,7 @@ returns c =
     let b = bounding_box (append (mesh_of s) (mesh_of o)) in
     let r = p.check_append-checked in
     let e = boxed_refusal (append_refusal s o) b r.result r.ensures in
-    let h : is_accepted r.result.refusal ≡ true = sym p.is_accepted.ensures ∙ not-false _ p.if-not-is_accepted.false in
+    let h : is_accepted r.result.refusal ≡ true = sym p.is_accepted.ensures ∙ p.if-not-is_accepted.false in
     let w = appends s o r.result.refusal e h in
     let vs = paste s.vertices (3 * s.mesh.vertices) o.vertices (3 * o.mesh.vertices) in
     let ts = paste s.triangles (3 * s.mesh.triangles) (map (λ (i : ℕ). i + s.mesh.vertices) o.triangles) (3 * o.mesh.triangles) in

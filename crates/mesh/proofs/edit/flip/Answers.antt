@@ -26,7 +26,7 @@ returns-then-not-is_accepted c =
     let b = bounding_box (mesh_of s) in
     let r = p.check-checked in
     let e = boxed_refusal (check_of s) b r.result r.ensures in
-    let h : is_accepted r.result.refusal ≡ false = sym p.is_accepted.ensures ∙ not-true _ p.if-not-is_accepted.true in
+    let h : is_accepted r.result.refusal ≡ false = sym p.is_accepted.ensures ∙ p.if-not-is_accepted.true in
     gives_kept (check_of s) s (stored (flip (mesh_of s)) s) r.result.refusal e h
 
 pub turn_all-requires : goal.turn_all-requires
@@ -37,7 +37,7 @@ turn_all-requires c =
     let b = bounding_box (mesh_of s) in
     let r = p.check-checked in
     let e = boxed_refusal (check_of s) b r.result r.ensures in
-    let h : is_accepted r.result.refusal ≡ true = sym p.is_accepted.ensures ∙ not-false _ p.if-not-is_accepted.false in
+    let h : is_accepted r.result.refusal ≡ true = sym p.is_accepted.ensures ∙ p.if-not-is_accepted.false in
     omega (arith, (check_sound s r.result.refusal e h).triangles)
 
 pub returns : goal.returns
@@ -49,7 +49,7 @@ returns c =
     let b = bounding_box (mesh_of s) in
     let r = p.check-checked in
     let e = boxed_refusal (check_of s) b r.result r.ensures in
-    let h : is_accepted r.result.refusal ≡ true = sym p.is_accepted.ensures ∙ not-false _ p.if-not-is_accepted.false in
+    let h : is_accepted r.result.refusal ≡ true = sym p.is_accepted.ensures ∙ p.if-not-is_accepted.false in
     let ts = each_to flip_tri s.mesh.triangles s.triangles in
     let m = c.record_of in
     let q : m.result ≡ record_of s.mesh.vertices s.mesh.triangles b

@@ -3,4 +3,4 @@ use borrow.Author.Rules.{rules}
 use Rattle.replay_format.proofs.head.bounds_of.Goals as goal
 
 pub returns : goal.returns
-returns c = record { min = c.vec_at.ensures i; max = c.vec_at-2.ensures i }
+returns c i = record { min = c.vec_at.ensures i; max = c.vec_at-2.ensures i }

@@ -2,15 +2,9 @@
 use Rattle.std.proofs.Common.{◌≡◌, ℕ, zero, suc, ◌+◌, ◌-◌, ◌*◌, ◌/◌, ◌^◌, ◌<◌, ◌≤◌, sym, refl, ap, ◌∙◌, ⊎_elim, lt_of_not-le, add-one, arith}
 use native.Mathlib.Nat.{pow-succ'}
 use Rattle.root_whole.proofs.Roots.{IsRoot, near_up, near_down, root_ge}
+use Rattle.root_whole.proofs.Turns.{Inv}
 use Rattle.root_whole.proofs.digits.root_by_digits.Goals as goal
-
--- with n bits to come: p is 2 ^ n, and the root is from q up to q + p
-record Inv (m n b q rest : ℕ) : Type 0 where
-  few : n ≤ 53
-  half : b ≡ 2 ^ n / 2
-  whole : 2 * (q * q) + rest * 2 ^ n ≡ m * 2 ^ 53
-  small : rest < 4 * q + 2 * 2 ^ n
-  room : q + 2 ^ n ≤ 2 ^ 53
+use Rattle.root_whole.proofs.digits.root_by_digits.Goals.{then-t-rest, else-t-rest}
 
 -- the next weight
 bit : (n b : ℕ) → 0 < n → b ≡ 2 ^ n / 2 → (2 ^ n ≡ 2 * b) × (2 ^ (n - 1) ≡ b)
@@ -95,7 +89,7 @@ pub overflow_add-q : goal.overflow_add-q
 overflow_add-q c = omega arith
 
 pub overflow_mul-rest : goal.overflow_mul-rest
-overflow_mul-rest c = ⊎_elim (λ w. omega arith) (λ w. omega arith) c.if-t-rest.branch
+overflow_mul-rest c = elim c.if-t-rest.branch [ then-t-rest w ↦ omega arith | else-t-rest w ↦ omega arith ]
 
 pub overflow_sub-n : goal.overflow_sub-n
 overflow_sub-n c = omega arith
@@ -105,10 +99,11 @@ loop-n-smaller c = omega arith
 
 pub loop-n-preserved : goal.loop-n-preserved
 loop-n-preserved c =
-    let l = c in
-    ⊎_elim (λ w. turn_up l.args.m l.loop-n.n l.loop-n.b l.loop-n.q l.loop-n.rest _ _ l.loop-n.invariant (omega arith) w.0.taken w.1 w.2)
-    (λ w. turn_down l.args.m l.loop-n.n l.loop-n.b l.loop-n.q l.loop-n.rest _ _ l.loop-n.invariant (omega arith) w.0.left w.1 w.2)
-    c.if-t-rest.branch
+    let l = c.loop-n in
+    elim c.if-t-rest.branch [
+      then-t-rest w ↦ turn_up c.args.m l.n l.b l.q l.rest _ _ l.invariant (omega arith) w.if-t-rest.true w.q-is w.rest-is
+    | else-t-rest w ↦ turn_down c.args.m l.n l.b l.q l.rest _ _ l.invariant (omega arith) w.if-t-rest.false w.q-is w.rest-is
+    ]
 
 pub overflow_mul-q : goal.overflow_mul-q
 overflow_mul-q c = omega arith

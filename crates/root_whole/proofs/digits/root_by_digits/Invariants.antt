@@ -1,7 +1,6 @@
 -- `root_whole::digits::root_by_digits` meets its contract. Assumes nothing.
 use Rattle.std.proofs.Common.{◌≡◌, ℕ, zero, suc, ◌+◌, ◌-◌, ◌*◌, ◌/◌, ◌^◌, ◌<◌, ◌≤◌, sym, refl, ap, ◌∙◌, ⊎_elim, lt_of_not-le, add-one, arith}
-use native.Mathlib.Nat.{pow-succ'}
-use Rattle.root_whole.proofs.Roots.{IsRoot, near_up, near_down, root_ge}
+use Rattle.root_whole.proofs.Turns.{Inv}
 use Rattle.root_whole.proofs.digits.root_by_digits.Given as goal
 
 abbrev pub invariant-loop-n : goal.invariant-loop-n

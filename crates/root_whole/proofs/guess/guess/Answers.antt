@@ -44,14 +44,14 @@ s_of_high c w h k = let u : 2 ^ 31 + w ≤ 2 ^ 31 + 0x3504f334 = omega arith in 
 quotient : (n s : ℕ) → 957921652 ≤ s → n < 2 ^ 62 → n / s * 957921652 < 2 ^ 62
 quotient n s h k = lt_of_le_of_lt (le_trans (mul-le-mul_left (n / s) h) (div-mul-le_self n s)) k
 
-low : (c : tie.Start) → 957921652 ≤ c_of c.args.m * unit_of c.args.m / 2 ^ 31
-low c = let m = c.args.m in s_of_low (c_of m) (m / 2 ^ 53 * 0x3504f334) (c_low m)
+low : (m : ℕ) → 957921652 ≤ c_of m * unit_of m / 2 ^ 31
+low m = s_of_low (c_of m) (m / 2 ^ 53 * 0x3504f334) (c_low m)
 
-high : (c : tie.Start) → c_of c.args.m * unit_of c.args.m / 2 ^ 31 < 2273666000
-high c = let m = c.args.m in s_of_high (c_of m) (m / 2 ^ 53 * 0x3504f334) (c_high m) (omega arith)
+high : (m : ℕ) → m < 2 ^ 54 → c_of m * unit_of m / 2 ^ 31 < 2273666000
+high m h = s_of_high (c_of m) (m / 2 ^ 53 * 0x3504f334) (c_high m) (omega arith)
 
-divided : (c : tie.Start) → c.args.m * 256 / (c_of c.args.m * unit_of c.args.m / 2 ^ 31) * 957921652 < 2 ^ 62
-divided c = let m = c.args.m in quotient (m * 256) (c_of m * unit_of m / 2 ^ 31) (low c) (omega arith)
+divided : (m : ℕ) → m < 2 ^ 54 → m * 256 / (c_of m * unit_of m / 2 ^ 31) * 957921652 < 2 ^ 62
+divided m h = quotient (m * 256) (c_of m * unit_of m / 2 ^ 31) (low m) (omega arith)
 
 pub overflow_shr-t : goal.overflow_shr-t
 overflow_shr-t c = omega arith
@@ -87,16 +87,16 @@ pub overflow_mul-s-2 : goal.overflow_mul-s-2
 overflow_mul-s-2 c = let m = c.args.m in record { fits = below_word (c_of m) (unit_of m) (omega (arith, c_high m)) (omega arith) }
 
 pub overflow_sub-result : goal.overflow_sub-result
-overflow_sub-result c = omega (arith, low c)
+overflow_sub-result c = omega (arith, low c.args.m)
 
 pub overflow_mul-result : goal.overflow_mul-result
 overflow_mul-result c = omega arith
 
 pub nonzero_div-result : goal.nonzero_div-result
-nonzero_div-result c = omega (arith, low c)
+nonzero_div-result c = omega (arith, low c.args.m)
 
 pub overflow_add-result : goal.overflow_add-result
-overflow_add-result c = omega (arith, high c, divided c)
+overflow_add-result c = omega (arith, high c.args.m c.requires.1, divided c.args.m c.requires.1)
 
 pub returns : goal.returns
-returns c = omega (arith, high c, divided c)
+returns c = omega (arith, high c.args.m c.requires.1, divided c.args.m c.requires.1)

@@ -17,7 +17,7 @@ bounds-b-at-4 c = simp length-set (omega arith)
 
 pub returns : goal.returns
 unfolding with_word
-returns c =
+returns c i =
     let c1 = c in
     let a = c1.args in
     set (set (set (set a.b.now a.at (c1.low_byte.ensures i)) (a.at + 1) (c.low_byte-2.ensures i)) (a.at + 2) (c.low_byte-3.ensures i)) (a.at + 3)

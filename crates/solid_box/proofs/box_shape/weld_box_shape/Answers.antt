@@ -18,7 +18,7 @@ pub shape_of-work-then-not-cylindrical : goal.shape_of-work-then-not-cylindrical
 shape_of-work-then-not-cylindrical c = c.weld_flat_box.ensures.wlong
 
 pub returns-then-not-cylindrical : goal.returns-then-not-cylindrical
-returns-then-not-cylindrical c = shape_straight _ _ _ _ _ _ _ _ c.min-lo.ensures c.max-hi.ensures (not-true _ c.if-not-cylindrical.true) c.weld_flat_box.ensures
+returns-then-not-cylindrical c = shape_straight _ _ _ _ _ _ _ _ c.min-lo.ensures c.max-hi.ensures c.if-not-cylindrical.true c.weld_flat_box.ensures
 
 pub weld_param_box-requires : goal.weld_param_box-requires
 weld_param_box-requires c =
@@ -36,5 +36,5 @@ shape_of-work c = c.weld_param_box.ensures.wlong
 
 pub returns : goal.returns
 returns c =
-    shape_turned _ _ _ _ _ _ _ _ _ c.min-lo.ensures c.max-hi.ensures (not-false _ c.if-not-cylindrical.false) c.is_full-full.ensures
+    shape_turned _ _ _ _ _ _ _ _ _ c.min-lo.ensures c.max-hi.ensures c.if-not-cylindrical.false c.is_full-full.ensures
     (cylindrical_runs _ _ _ _ _ _ _ _ c.turned_to-high.ensures c.arc_segments-n.ensures c.weld_param_box.ensures)

@@ -3,5 +3,5 @@ use borrow.Author.Rules.{rules}
 use Rattle.surface_box.proofs.faces.line_of.Goals as goal
 
 pub returns : goal.returns
-returns c =
+returns c i =
     record { lo = c.axis.ensures i; hi = c.axis-2.ensures i; n = c.cuts.ensures i; periodic = c.wraps.ensures i }

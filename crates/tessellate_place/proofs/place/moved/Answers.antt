@@ -30,5 +30,5 @@ returns c =
     let a = e.args in
     let s = state a.mesh a.vertices.now a.triangles.now in
     makes_is c.accepted.ensures
-    (makes_as (moved_accepted a.a s f.result f.ensures (not-false f.result e.if-not-stay_finite.false)) refl
+    (makes_as (moved_accepted a.a s f.result f.ensures e.if-not-stay_finite.false) refl
     (makes_accepted (transform a.a (mesh_of s)) s m.move_mesh-after.result _ _ m.move_mesh-after.ensures))

@@ -10,10 +10,10 @@ pub returns-then-not-is_finite : goal.returns-then-not-is_finite
 returns-then-not-is_finite c =
     let s = c in
     rw c.stopped.ensures (last_stops s.args.w s.args.vertices.now s.args.triangles.now s.args.work.now s.requires.ready s.args.c s.args.na s.args.nb s.args.nd
-    (sym c.is_finite.ensures ∙ not-true _ c.if-not-is_finite.true))
+    (sym c.is_finite.ensures ∙ c.if-not-is_finite.true))
 
 pub plus_zero-requires : goal.plus_zero-requires
-plus_zero-requires c = sym c.is_finite.ensures ∙ not-false _ c.if-not-is_finite.false
+plus_zero-requires c = sym c.is_finite.ensures ∙ c.if-not-is_finite.false
 
 pub weld_point-t-requires : goal.weld_point-t-requires
 weld_point-t-requires c = (c.requires.ready.linked, c.plus_zero.ensures.1)
@@ -32,5 +32,5 @@ returns c =
     let u = c.add_triangle-u in
     let v = c.add_triangle-v in
     last_runs s.args.w s.args.vertices.now s.args.triangles.now s.args.work.now s.requires.ready p.0 p.1 s.args.c c.plus_zero.result s.args.na
-    s.args.nb s.args.nd t.result _ _ u.result _ v.result _ (sym c.is_finite.ensures ∙ not-false _ c.if-not-is_finite.false)
+    s.args.nb s.args.nd t.result _ _ u.result _ v.result _ (sym c.is_finite.ensures ∙ c.if-not-is_finite.false)
     c.plus_zero.ensures.0 t.ensures u.ensures v.ensures t.auto.vertices u.auto.triangles v.auto.triangles t.auto.work p.2 p.3 p.4

@@ -11,22 +11,22 @@ use Rattle.weld_triangle.proofs.steps.add_triangle.Goals as goal
 pub returns-then-not-room : goal.returns-then-not-room
 returns-then-not-room c =
     let s = c in
-    triangle_shut s.args.a s.args.b s.args.c s.args.w s.args.triangles.now s.requires.0 (not-true _ c.if-not-room.true)
+    triangle_shut s.args.a s.args.b s.args.c s.args.w s.args.triangles.now s.requires.0 c.if-not-room.true
 
 pub returns-then-a-b : goal.returns-then-a-b
 returns-then-a-b c =
     let s = c in
-    triangle_flat s.args.a s.args.b s.args.c s.args.w s.args.triangles.now s.requires.0 (not-false _ c.if-not-room.false) (inl c.if-a-b.true)
+    triangle_flat s.args.a s.args.b s.args.c s.args.w s.args.triangles.now s.requires.0 c.if-not-room.false (inl c.if-a-b.true)
 
 pub returns-then-b-c : goal.returns-then-b-c
 returns-then-b-c c =
     let s = c in
-    triangle_flat s.args.a s.args.b s.args.c s.args.w s.args.triangles.now s.requires.0 (not-false _ c.if-not-room.false) (inr (inl c.if-b-c.true))
+    triangle_flat s.args.a s.args.b s.args.c s.args.w s.args.triangles.now s.requires.0 c.if-not-room.false (inr (inl c.if-b-c.true))
 
 pub returns-then-a-c : goal.returns-then-a-c
 returns-then-a-c c =
     let s = c in
-    triangle_flat s.args.a s.args.b s.args.c s.args.w s.args.triangles.now s.requires.0 (not-false _ c.if-not-room.false) (inr (inr c.if-a-c.true))
+    triangle_flat s.args.a s.args.b s.args.c s.args.w s.args.triangles.now s.requires.0 c.if-not-room.false (inr (inr c.if-a-c.true))
 
 pub returns-then-counted_places-faces : goal.returns-then-counted_places-faces
 unfolding counted_places
@@ -34,7 +34,7 @@ returns-then-counted_places-faces c =
     let s = c in
     rw c.full.ensures
     (triangle_full s.args.a s.args.b s.args.c s.args.w s.args.triangles.now s.requires.0 c.if-a-b.false
-    c.if-b-c.false c.if-a-c.false (not-false _ c.if-not-room.false)
+    c.if-b-c.false c.if-a-c.false c.if-not-room.false
     (omega (arith, c.if-counted_places-faces.true, c.counted_places.ensures)))
 
 pub overflow_mul-at : goal.overflow_mul-at
@@ -85,5 +85,5 @@ returns c =
     let s = c in
     rw c.with_face.ensures
     (triangle_new s.args.a s.args.b s.args.c s.args.w s.args.triangles.now s.requires.0 c.if-a-b.false
-    c.if-b-c.false c.if-a-c.false (not-false _ c.if-not-room.false)
+    c.if-b-c.false c.if-a-c.false c.if-not-room.false
     (omega (arith, c.if-counted_places-faces.false, c.counted_places.ensures)))
