@@ -1,4 +1,6 @@
 // The root and its case, the sine and the cosine, for programs in other languages: tests/numbers links them.
+#![tactic(auto)]
+
 ghost use Rattle.std.specs.Prelude.{◌≡◌};
 ghost use Rattle.root_case.specs.Case.{root_case};
 ghost use Rattle.root.specs.Rounded.{Root};

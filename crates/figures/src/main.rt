@@ -1,4 +1,6 @@
 // Prints the figures of docs/SCOPE.md, "Figures", each computed by the library.
+#![tactic(auto)]
+
 mod arcs_and_roots;
 mod drawings;
 mod drawn;

@@ -1,5 +1,7 @@
 // Lines of the program `figures` on arcs, roots, meshes and their measures, put into a lent slice of bytes from place at on, as far as they fit. Each
 // function answers the place after its text.
+#![tactic(auto)]
+
 mod arcs_and_roots;
 mod meshes;
 

@@ -1,5 +1,7 @@
 // Lines of the program `figures` on outlines, cleaned and clipped, put into a lent slice of bytes from place at on, as far as they fit. Each function
 // answers the place after its text.
+#![tactic(auto)]
+
 ghost use Rattle.figures_outlines.specs.Outlines.{corners_of, cleaned_of, removed_of, triangles_of, clipped_of};
 ghost use Rattle.slice_text.specs.Line.{line, Puts};
 

@@ -1,5 +1,7 @@
 // Text of points, corners and triangles, put into a lent slice of bytes from place at on, as far as it fits.
 // Each function answers the place after its text.
+#![tactic(auto)]
+
 ghost use Rattle.figures_points.specs.Lists.{up_to, point_of, point_at, corner_of, corner_at, next_of, number_after_blank, triangle_of, triangle_at};
 ghost use Rattle.slice_text.specs.Line.{line, Puts};
 

@@ -1,5 +1,7 @@
 // Text of the program `figures`: which of the four points of the unit circle on the axes x and y are vertices of a mesh, of the first count vertices of v,
 // three floats each. It is put into a lent slice of bytes from place at on, as far as it fits. A function that puts answers the place after its text.
+#![tactic(auto)]
+
 ghost use Rattle.std.specs.Prelude.{◌≡◌};
 ghost use Rattle.figures_quarters.specs.Quarters.{flat, if_vertex, none_of, quarters_of};
 ghost use Rattle.figures_same.specs.Vertices.{has_vertex};

@@ -1,4 +1,6 @@
 // Whether a slice begins with the content of another, and whether a point is among the vertices of a mesh.
+#![tactic(auto)]
+
 ghost use Rattle.std.specs.Prelude.{◌≡◌, eqb};
 ghost use Rattle.std.specs.Float.Ieee.{eq};
 ghost use Rattle.figures_same.specs.Begins.{begins};

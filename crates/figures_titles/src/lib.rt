@@ -1,5 +1,7 @@
 // Titles of the program `figures`, what is drawn, put into a lent slice of bytes from place at on, as far as they fit. Each function answers the
 // place after its text.
+#![tactic(auto)]
+
 ghost use Rattle.figures_titles.specs.Titles.{box_of, fineness_of, sphere_of, cylinder_of, shell_of, turned_box_of};
 ghost use Rattle.slice_text.specs.Line.{line, Puts};
 

@@ -1,4 +1,6 @@
 // The solids of a file drawn one after the other into the planner's output.
+#![tactic(auto)]
+
 mod all;
 mod next;
 

@@ -1,4 +1,6 @@
 // One solid of a file, drawn by `tessellate`.
+#![tactic(auto)]
+
 ghost use Rattle.fixture_next.specs.Job.{job_in};
 ghost use Rattle.fixture_spec.specs.Outcome.{drawn};
 ghost use Rattle.mesh_made.specs.Made.{GivesMade};

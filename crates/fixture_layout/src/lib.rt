@@ -1,4 +1,6 @@
 // What a payload is made of, and the lengths that it can have.
+#![tactic(auto)]
+
 ghost use Rattle.std.specs.Prelude.{◌≡◌, ◌<◌};
 ghost use Rattle.fixture_spec.specs.Fields as Fields;
 

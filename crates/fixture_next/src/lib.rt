@@ -1,4 +1,6 @@
 // The solids of a fixture's file, one after the other, each with its settings and its operations.
+#![tactic(auto)]
+
 mod job;
 mod next;
 mod ops;

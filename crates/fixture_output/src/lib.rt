@@ -1,5 +1,7 @@
 // The planner's output while the solids of a file are drawn, and at its end. Until then the vertices stand at the front, behind eight bytes for the counts,
 // and the triangles' numbers at the back, the first number last: how many vertices come is not known before the last solid.
+#![tactic(auto)]
+
 ghost use Rattle.std.specs.Prelude.{◌≡◌, length, replicate};
 ghost use Rattle.fixture_output.specs.Laid.{Adds, Added, Finishes, Finished};
 

@@ -1,4 +1,6 @@
 // The payload of a field, from the bytes behind its tag: its length, its first byte, all of it.
+#![tactic(auto)]
+
 ghost use Rattle.std.specs.Prelude.{◌≡◌, ◌+◌, ◌<◌, ◌≤◌, length, get_or, drop};
 ghost use Rattle.fixture_spec.specs.Fields as Fields;
 

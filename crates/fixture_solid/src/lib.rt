@@ -1,4 +1,6 @@
 // One field of a fixture's file: its solid, its operation, and what it sets.
+#![tactic(auto)]
+
 mod field;
 mod held;
 mod read;

@@ -1,4 +1,5 @@
 // Fixtures in a file, as definitions: its fields, its solids, their mesh and the planner's bytes.
+#![tactic(auto)]
 
 // What a payload is made of: single bytes first, then single floats, then a list whose items have so many floats (0: no list).
 #[derive(Clone, Copy)]

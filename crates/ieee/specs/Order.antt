@@ -1,11 +1,11 @@
 -- `<=` of floats is transitive. A number p that a bound does not hold for goes beyond all the numbers that it holds for. Assumes nothing.
-use Rattle.std.specs.Prelude.{ℕ, ◌+◌, ◌*◌, ◌<◌, ◌≤◌, Bool, true, false, not, ◌&&◌, ◌||◌, T, ◌⊎◌, ◌==◌}
+use Rattle.std.specs.Prelude.{ℕ, ◌+◌, ◌*◌, ◌<◌, ◌≤◌, Bool, true, false, not, ◌||◌, T, ◌⊎◌, ◌==◌}
 use Rattle.std.proofs.Common.{mul-le-mul_right, mul-lt-mul_of_pos_right, arith, inl, inr, ltb→lt, eqb→eq, T_not}
 use Rattle.std.proofs.Math.Dec.{not_T}
 use Rattle.std.specs.Prelude.{Float}
 use Rattle.std.specs.Float.{nan, inf, fin}
 use Rattle.std.specs.Float.Ieee.{up, down, below, level, lt, le, is_nan}
-use Rattle.std.specs.Float.Ieee.Fits.{up_pos, down_pos, and_l, and_r}
+use Rattle.std.specs.Float.Ieee.Fits.{down_pos, and_l, and_r}
 use Rattle.ieee.specs.Same.{or_split}
 use Rattle.ieee.specs.Total.{total, lt→le}
 

@@ -1,5 +1,5 @@
 -- Each operation respects `Same`. For values that fit, `x + 0.0` is `canon x`, and `==` between numbers is `Same`. Assumes nothing.
-use Rattle.std.specs.Prelude.{◌≡◌, ℕ, zero, suc, ◌+◌, ◌-◌, ◌*◌, ◌<◌, ◌≤◌, Bool, true, false, cond, not, ◌||◌, T, ◌⊎◌, ◌↔◌, ℤ, ◌==◌, nat_lt}
+use Rattle.std.specs.Prelude.{◌≡◌, ℕ, zero, suc, ◌-◌, ◌*◌, ◌<◌, ◌≤◌, Bool, true, false, cond, not, ◌||◌, T, ◌⊎◌, ◌↔◌, ℤ, ◌==◌, nat_lt}
 use Rattle.std.specs.Prelude.{refl, Float}
 use Rattle.std.proofs.Common.{sym, ap, ◌∙◌, subst, inl, inr, lt_irrefl, zero-lt-suc, add-zero, zero-mul, mul-one, mul-pos, arith, ltb→lt, nltb→le, eqb→eq}
 use Rattle.std.proofs.Math.Nat.{sub-zero}

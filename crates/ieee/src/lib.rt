@@ -1,4 +1,6 @@
 // Small functions on f64 that the other crates share, each for every float.
+#![tactic(auto)]
+
 ghost use Rattle.std.specs.Prelude.{◌≡◌};
 ghost use Rattle.std.specs.Float.Ieee.Scale.{finite};
 ghost use Rattle.ieee.specs.Number.{minimum, maximum, absolute};

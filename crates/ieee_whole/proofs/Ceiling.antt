@@ -1,6 +1,6 @@
 -- `ceil_to_usize`, by the ways through its tests: the float cut to a whole number and one comparison below 2 ^ 52, the cut alone up to 2 ^ 64, and the two
 -- ends. Assumes nothing.
-use Rattle.std.proofs.Common.{◌≡◌, ℕ, zero, suc, ◌+◌, ◌-◌, ◌*◌, ◌/◌, ◌^◌, ◌<◌, ◌≤◌, min, Bool, true, false, T, ltb, ℤ, pos, negsuc, sym, refl, ap, ◌∙◌, subst, inl, true≢false, le_trans, le_of_eq, lt_of_le_of_lt, add-zero, div-lt_iff_lt-mul, lt_of_mul-lt-mul_right, mul-lt-mul_of_pos_right, le-div_iff_mul-le, mul-one, mul_right_comm, div-mul-le_self, arith, lit≤, le→leb, ltb→lt, lt→ltb, ltb-false, ltb-true}
+use Rattle.std.proofs.Common.{◌≡◌, ℕ, suc, ◌+◌, ◌-◌, ◌*◌, ◌/◌, ◌^◌, ◌<◌, ◌≤◌, min, Bool, true, false, T, ltb, ℤ, pos, negsuc, sym, refl, ap, ◌∙◌, subst, inl, true≢false, le_trans, le_of_eq, lt_of_le_of_lt, add-zero, div-lt_iff_lt-mul, lt_of_mul-lt-mul_right, mul-lt-mul_of_pos_right, le-div_iff_mul-le, mul-one, mul_right_comm, div-mul-le_self, arith, lit≤, le→leb, ltb→lt, lt→ltb, ltb-false, ltb-true}
 use native.Mathlib.Nat.{div-eq_of_lt-le}
 use mathlib.Core.Bool.{false≢true}
 use lib.Ieee.{Float, nan, inf, fin, binary64, up, down, of_int, to_unsigned, in_float, lt, fits}

@@ -1,6 +1,6 @@
 -- What `truncating_f64_to_u64` asks and gives for a value that is not negative, the tests in front of it, and that a value from 2 ^ 52 on has no fraction.
 -- `fin s m e` is ±(m * up e) / down e. Assumes nothing.
-use Rattle.std.proofs.Common.{◌≡◌, ℕ, suc, ◌+◌, ◌-◌, ◌*◌, ◌/◌, ◌^◌, ◌<◌, ◌≤◌, min, Bool, true, false, not, T, ◌⊎◌, pos, sym, ap, ◌∙◌, subst, inl, inr, true≢false, div-lt_iff_lt-mul, lt_of_mul-lt-mul_right, mul-lt-mul_of_pos_right, one-mul, zero-mul, mul-one, mul_right_comm, arith, lt→ltb, pow_pos}
+use Rattle.std.proofs.Common.{◌≡◌, ℕ, suc, ◌+◌, ◌-◌, ◌*◌, ◌/◌, ◌^◌, ◌<◌, ◌≤◌, min, Bool, true, false, T, ◌⊎◌, pos, sym, ap, ◌∙◌, subst, inl, inr, true≢false, div-lt_iff_lt-mul, lt_of_mul-lt-mul_right, mul-lt-mul_of_pos_right, one-mul, zero-mul, mul-one, mul_right_comm, arith, lt→ltb, pow_pos}
 use native.Mathlib.Nat.{zero-div}
 use native.Mathlib.Nat.{eq_of_mul-eq-mul_right, pow-succ'}
 use lib.Ieee.{Float, nan, inf, fin, up, down, lt, to_unsigned}

@@ -1,6 +1,6 @@
 -- `nearest_whole` between -2 ^ 52 and 2 ^ 52: the float doubled is exact, and the whole part of it, plus 1, halved, is the nearest whole number. Assumes
 -- nothing.
-use Rattle.std.proofs.Common.{◌≡◌, ℕ, zero, ◌+◌, ◌-◌, ◌*◌, ◌/◌, ◌%◌, ◌^◌, ◌<◌, ◌≤◌, Bool, true, false, not, ◌&&◌, T, eqb, ◌⊎◌, ℤ, pos, neg_ℤ, sym, refl, ap, ◌∙◌, subst, inl, inr, true≢false, le_trans, le_of_eq, lt_of_lt_of_le, le_of_suc-le-suc, mul-le-mul_right, zero-lt-suc, mul_comm, div-lt_iff_lt-mul, mul-pos, zero-mul, arith, eqb→eq, ltb→lt, leb→le, pow_pos, pow_mono, ltb-false, ltb-true}
+use Rattle.std.proofs.Common.{◌≡◌, ℕ, ◌+◌, ◌*◌, ◌/◌, ◌%◌, ◌^◌, ◌<◌, ◌≤◌, Bool, true, false, ◌&&◌, T, eqb, ◌⊎◌, ℤ, pos, neg_ℤ, sym, refl, ap, ◌∙◌, subst, inl, inr, true≢false, le_trans, le_of_eq, lt_of_lt_of_le, le_of_suc-le-suc, mul-le-mul_right, zero-lt-suc, mul_comm, div-lt_iff_lt-mul, mul-pos, zero-mul, arith, eqb→eq, ltb→lt, leb→le, pow_pos, pow_mono, ltb-false, ltb-true}
 use mathlib.Core.Bool.{false≢true}
 use native.Mathlib.Nat.{add-div_right}
 use native.Mathlib.Nat.{div-div-eq-div-mul}

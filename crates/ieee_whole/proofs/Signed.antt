@@ -1,7 +1,7 @@
 -- A whole number up to 2 ^ 52 and its negative, as an i64 and as a float. Assumes nothing.
-use Rattle.std.proofs.Common.{◌≡◌, ℕ, zero, suc, ◌+◌, ◌-◌, ◌^◌, ◌≤◌, T, ℤ, pos, ◌-ℤ◌, neg_ℤ, sym, ap, ◌∙◌, subst, le_trans, lt_of_lt_of_le, lt_of_le_of_lt, le→leb, ltb→lt, lt→ltb, leb→le, pow_pos, w64, SFits, to_z, of_z}
+use Rattle.std.proofs.Common.{◌≡◌, ℕ, zero, suc, ◌^◌, ◌≤◌, T, ℤ, pos, ◌-ℤ◌, neg_ℤ, sym, ap, ◌∙◌, subst, le_trans, lt_of_lt_of_le, lt_of_le_of_lt, le→leb, ltb→lt, lt→ltb, leb→le, pow_pos, w64, SFits, to_z, of_z}
 use lib.IntN.{+ℤ_idl}
-use lib.Ieee.{binary64, up, in_float}
+use lib.Ieee.{binary64, in_float}
 use mir.ValLaws.{to_z_pos, to_z-of_z}
 
 pub read : (n : ℕ) → n ≤ 2 ^ 52 → to_z w64 n ≡ pos n

@@ -1,5 +1,5 @@
 -- full * s / TAU, rounded twice, lies from 0 to 1024 for 0 <= s <= TAU and a whole full up to 1024. Assumes nothing.
-use Rattle.std.specs.Prelude.{◌≡◌, ℕ, zero, suc, ◌+◌, ◌-◌, ◌*◌, ◌/◌, ◌^◌, ◌<◌, ◌≤◌, true, false, not, ◌&&◌, T, ◌⊎◌, pos, negsuc, ◌==◌, ◌≢◌, nat_lt, refl, Float}
+use Rattle.std.specs.Prelude.{◌≡◌, ℕ, zero, suc, ◌+◌, ◌*◌, ◌^◌, ◌<◌, ◌≤◌, true, false, not, ◌&&◌, T, ◌⊎◌, pos, negsuc, ◌==◌, ◌≢◌, nat_lt, refl, Float}
 use Rattle.std.proofs.Common.{sym, ap, ◌∙◌, subst, inl, inr, zero-le, le_trans, le_of_eq, lt_of_lt_of_le, lt_of_le_of_lt, le-add_left, zero-lt-suc, zero-mul, one-mul, mul-pos, mul_assoc, mul-le-mul, arith, eqb→eq, lt→ltb, lit≤, lit<}
 use Rattle.std.specs.Float.{nan, inf, fin, Format, binary64}
 use Rattle.std.specs.Float.Ieee.{up, down, round, mul, div, of_int, of_bits, le, lt, eq, is_nan}

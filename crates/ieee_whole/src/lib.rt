@@ -1,4 +1,6 @@
 // Whole numbers of an f64: the ceiling, and the nearest one with its remainder modulo 4, each for every float.
+#![tactic(auto)]
+
 ghost use Rattle.std.specs.Prelude.{◌≡◌, ◌^◌, ◌≤◌, false, T, pos, neg_ℤ};
 ghost use Rattle.std.specs.Float.Ieee as Ieee;
 ghost use Rattle.std.specs.Float.{binary64, fin};

@@ -1,5 +1,5 @@
 -- Boxes along the axes, as src/math.rs has them in `impl BoundingBox`; `union` is without its tests for empty boxes.
-use Rattle.std.specs.Prelude.{true, false, Float}
+use Rattle.std.specs.Prelude.{true, false}
 use Rattle.std.specs.Float.{inf}
 use Rattle.math.specs.declared.Vec3.{Vec3}
 use Rattle.math.specs.declared.BoundingBox.{BoundingBox}

@@ -1,6 +1,6 @@
 -- Where a vector is finite: its components, and the operands of a result that is. Assumes nothing.
 use Rattle.std.specs.Prelude.{◌&&◌, T, Float}
-use Rattle.std.specs.Float.Ieee.{binary64, add, sub, mul, div}
+use Rattle.std.specs.Float.Ieee.{binary64}
 use Rattle.std.specs.Float.Ieee.Fits.{and_i, and_l, and_r}
 use Rattle.std.specs.Float.Ieee.Scale.{finite}
 use Rattle.ieee.specs.Finite.{finite_add_l, finite_add_r, finite_sub_l, finite_sub_r, finite_mul_l, finite_mul_r, finite_div_l}

@@ -1,4 +1,6 @@
 // Points and directions, and the type of boxes along the axes: src/math.rs.
+#![tactic(auto)]
+
 mod vec;
 
 pub use vec::{add, axis, div, is_finite, max, min, mul, sub, unit, with_axis};

@@ -1,4 +1,6 @@
 // Boxes along the axes: `impl BoundingBox` of src/math.rs, `union` without its tests for empty boxes.
+#![tactic(auto)]
+
 ghost use Rattle.std.specs.Prelude.{◌≡◌, not, T};
 ghost use Rattle.std.specs.Float.Ieee.{is_nan};
 ghost use Rattle.ieee.specs.Number.{minimum, maximum};

@@ -1,4 +1,6 @@
 // Matrices of four rows and columns: rows, the identity, translation and scaling of `impl Mat4` of src/math.rs.
+#![tactic(auto)]
+
 ghost use Rattle.std.specs.Prelude.{◌≡◌, ◌<◌};
 ghost use Rattle.math_matrix.specs.Mat as Mat;
 

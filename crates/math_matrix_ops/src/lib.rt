@@ -1,5 +1,7 @@
 // What matrices do: the product of two, a point under one, and whether one mirrors. `Mul for Mat4` and `Mat4::transform_point` of src/math.rs, and
 // `det` of `TriMesh::transform` of src/tessellate.rs.
+#![tactic(auto)]
+
 ghost use Rattle.std.specs.Prelude.{◌≡◌};
 ghost use Rattle.math_matrix.specs.Mat as Mat;
 

@@ -1,4 +1,6 @@
 // Products of two vectors, norms, and vectors scaled to length 1: the rest of `impl Vec3` of src/math.rs.
+#![tactic(auto)]
+
 ghost use Rattle.std.specs.Prelude.{◌≡◌};
 ghost use Rattle.math.specs.Vec as Vec;
 

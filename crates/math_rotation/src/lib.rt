@@ -1,4 +1,6 @@
 // Matrices that turn: `Mat4::rotation` of src/math.rs.
+#![tactic(auto)]
+
 ghost use Rattle.std.specs.Prelude.{◌≡◌};
 ghost use Rattle.math_rotation.specs.Rotation as Rotation;
 

@@ -1,5 +1,7 @@
 // A mesh in lent slices: three floats a vertex, three numbers a triangle, and its record by value: the two counts and the box of the vertices.
 // The calls edit it or measure it. Each checks the mesh first, and a refusal changes nothing.
+#![tactic(auto)]
+
 mod edit;
 
 pub use edit::{append, flip};

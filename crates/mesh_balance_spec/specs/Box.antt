@@ -1,9 +1,9 @@
 -- The faces of a parameter box of d0 x d1 x d2 cells, at any points g. Axis k has the grid axes (k + 1) % 3 and (k + 2) % 3; its low face, at 0, has
 -- each quad the other way round. The six faces are balanced, and where g closes up along the middle axis the four of the other two axes are.
 -- Assumes nothing.
-use Rattle.std.specs.Prelude.{◌≡◌, refl, List, [], ◌∷◌, ◌++◌, map, ℕ, zero, suc, ◌+◌, ◌%◌, ◌≤◌, ◌<◌}
-use Rattle.std.proofs.Common.{sym, ap, ◌∙◌, arith}
-use Rattle.mesh_balance_spec.specs.Soup.{Tri, Weight, rev, round, sum, Balanced, sum_append}
+use Rattle.std.specs.Prelude.{◌≡◌, List, ◌++◌, ℕ, zero, suc, ◌+◌, ◌%◌, ◌≤◌}
+use Rattle.std.proofs.Common.{arith}
+use Rattle.mesh_balance_spec.specs.Soup.{Tri, Weight, rev, sum, Balanced, sum_append}
 use Rattle.mesh_balance_spec.specs.Grid.{upto, cells, cells_turned, path, cells_law, sum_cells_turned, path_cong}
 
 module _ {P : Type 0} where

@@ -3,7 +3,7 @@
 use Rattle.std.specs.Prelude.{◌≡◌, refl, Bool, true, false, List, [], ◌∷◌, ◌++◌, map, ℕ, zero, suc, ◌+◌, ◌%◌, ◌≤◌, ◌<◌}
 use Rattle.std.proofs.Common.{sym, ap, ap₂, ◌∙◌, arith, add-one}
 use Rattle.std.proofs.Math.Nat.{zero-mod, mod_self}
-use Rattle.mesh_balance_spec.specs.Soup.{Tri, Weight, rev, round, sum, Balanced, flip_tri, map_tri, sum_append, sum_flip, sum_map}
+use Rattle.mesh_balance_spec.specs.Soup.{Tri, Weight, rev, sum, Balanced, flip_tri, map_tri, sum_append, sum_flip, sum_map}
 
 module _ {P : Type 0} where
   -- `Soup::quad` of src/tessellate.rs

@@ -1,9 +1,9 @@
 -- A prism: a cap at one level, the same cap reversed at another, and a side quad over each edge of the ring that bounds the cap.
 -- Assumes nothing.
-use Rattle.std.specs.Prelude.{◌≡◌, refl, List, [], ◌∷◌, ◌++◌, map, ℕ, zero, suc, ◌+◌, ◌%◌, ◌≤◌, ◌<◌}
+use Rattle.std.specs.Prelude.{◌≡◌, refl, List, [], ◌∷◌, ◌++◌, map, ℕ, zero, suc, ◌+◌, ◌%◌}
 use Rattle.std.proofs.Common.{sym, ap, ap₂, ◌∙◌, mod-eq_of_lt, arith, add-one}
 use Rattle.std.proofs.Math.Nat.{zero-mod, mod_self}
-use Rattle.mesh_balance_spec.specs.Soup.{Tri, Weight, rev, round, sum, Balanced, flip_tri, map_tri, sum_append, sum_flip, sum_map}
+use Rattle.mesh_balance_spec.specs.Soup.{Tri, Weight, rev, Balanced, flip_tri, map_tri, sum_append, sum_flip, sum_map}
 use Rattle.mesh_balance_spec.specs.Grid.{quad, upto, upto_cong, path, path_cong, strip_law, Bounds}
 
 module _ {C P : Type 0} where

@@ -1,4 +1,6 @@
 // The box of the vertices of a mesh in a lent slice, whether two boxes are equal, and the box that is all zero. Nothing is written.
+#![tactic(auto)]
+
 ghost use Rattle.std.specs.Prelude.{◌≡◌, ◌*◌, ◌≤◌, length, take};
 ghost use Rattle.mesh_spec.specs.Mesh.{same_point};
 ghost use Rattle.mesh_spec.specs.Slices.{points};

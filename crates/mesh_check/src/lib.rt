@@ -1,5 +1,7 @@
 // A mesh in lent slices: three floats a vertex, three numbers a triangle, and its record by value: the two counts and the box of the vertices.
 // The checks that every call on it makes: refusals 8 and 1, then 8 for the box.
+#![tactic(auto)]
+
 ghost use Rattle.std.specs.Prelude.{◌≡◌};
 ghost use Rattle.mesh_check.specs.State.{record_of, empty_record};
 

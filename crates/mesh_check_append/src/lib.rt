@@ -1,4 +1,6 @@
 // Which refusal `append` answers, in docs/SCOPE.md's order of checks: 8 on either mesh, 1 on either, 8 for the box of either, 7. Nothing is written here.
+#![tactic(auto)]
+
 ghost use Rattle.std.specs.Prelude.{◌≡◌};
 ghost use Rattle.mesh_spec.specs.Mesh.{append};
 ghost use Rattle.mesh_spec.specs.Measures.{bounding_box};

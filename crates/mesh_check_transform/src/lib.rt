@@ -1,5 +1,7 @@
 // Which refusal `transform` answers, in docs/SCOPE.md's order of checks: 8, 4, 1, 8 for the box, 2, and where there are operations 5. Nothing is written
 // here.
+#![tactic(auto)]
+
 ghost use Rattle.std.specs.Prelude.{◌≡◌, ◌++◌, ◌*◌, take};
 ghost use Rattle.mesh_spec.specs.Slices.{points, coords};
 ghost use Rattle.mesh_move_affine.specs.Affine.{Tested};

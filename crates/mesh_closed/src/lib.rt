@@ -1,4 +1,6 @@
 // Open or closed: the numbers of each triangle, and each directed edge counted against its reverse. A slice has three numbers a triangle.
+#![tactic(auto)]
+
 ghost use Rattle.std.specs.Prelude.{◌≡◌, ◌+◌, ◌*◌, ◌≤◌, length};
 ghost use Rattle.mesh_balance_spec.specs.Soup.{round};
 ghost use Rattle.mesh_balance_spec.specs.Count.{here, edges, uses};

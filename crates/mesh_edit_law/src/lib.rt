@@ -1,4 +1,6 @@
 // What append, flip and transform leave, as definitions, and the theorem about lists of these calls: in specs/. No functions.
+#![tactic(auto)]
+
 use mesh_check::TriMesh;
 use refusal::Refusal;
 

@@ -1,4 +1,6 @@
 // Where every call that makes a mesh ends: what it answers, and what stays in the lent slices.
+#![tactic(auto)]
+
 ghost use Rattle.std.specs.Prelude.{◌≡◌, ◌*◌, ◌≤◌, length};
 ghost use Rattle.mesh_made.specs.Made.{refused_with, accepted_with, short_work};
 ghost use Rattle.mesh_made.specs.Steps.{judged, Keeps, Ends};

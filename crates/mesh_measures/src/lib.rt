@@ -1,4 +1,6 @@
 // The measures of a mesh in lent slices. Each checks the mesh first. They change nothing.
+#![tactic(auto)]
+
 ghost use Rattle.mesh_check.specs.State.{state};
 ghost use Rattle.mesh_measures.specs.Measures.{GivesMeasure, GivesBox, signed_volume_of, area_of, enclosed_volume_of, bounding_box_of};
 

@@ -1,4 +1,6 @@
 // Vertices under a matrix, and a mesh under it.
+#![tactic(auto)]
+
 ghost use Rattle.std.specs.Prelude.{◌*◌, ◌≤◌, length};
 ghost use Rattle.mesh_move_affine.specs.Affine.{FiniteVertices, MovesTo};
 

@@ -1,4 +1,6 @@
 // The vertices under a matrix that ends with the row 0 0 0 1, which takes no division.
+#![tactic(auto)]
+
 ghost use Rattle.std.specs.Prelude.{◌≡◌, map, ◌*◌, take};
 ghost use Rattle.ieee.specs.Number.{is_zero};
 ghost use Rattle.math.specs.Vec.{v_finite, one};

@@ -1,1 +1,2 @@
 // The Rust's TriMesh as definitions, and the theorems about it. No code.
+#![tactic(auto)]

@@ -1,4 +1,6 @@
 // Whether vertices are finite after a matrix. Writes nothing.
+#![tactic(auto)]
+
 ghost use Rattle.std.specs.Prelude.{◌≡◌, map, ◌*◌, ◌≤◌, length, take};
 ghost use Rattle.math.specs.Vec.{v_finite};
 ghost use Rattle.math_matrix.specs.Mat.{transform_point};

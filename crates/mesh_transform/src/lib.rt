@@ -1,4 +1,6 @@
 // Moving a mesh by operations.
+#![tactic(auto)]
+
 ghost use Rattle.mesh_check.specs.State.{state};
 ghost use Rattle.mesh_edit_law.specs.Outcome.{GivesEdit};
 ghost use Rattle.mesh_edit_law.specs.Edits.{transform_of};

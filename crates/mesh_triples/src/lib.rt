@@ -1,4 +1,6 @@
 // Three elements of a lent slice at a place: a vertex read, and a vertex written.
+#![tactic(auto)]
+
 ghost use Rattle.std.specs.Prelude.{◌≡◌, ◌+◌, ◌*◌, ◌≤◌, length};
 ghost use Rattle.mesh_spec.specs.Slices.{tri_of, vertex_at};
 ghost use Rattle.mesh_triples.specs.Triples.{put_triple};

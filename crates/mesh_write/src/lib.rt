@@ -1,4 +1,6 @@
 // The loops that write triangles, and copies into a slice: turned triangles, floats and numbers at a place.
+#![tactic(auto)]
+
 ghost use Rattle.std.specs.Prelude.{◌≡◌, map, ℕ, ◌+◌, ◌*◌, ◌^◌, ◌≤◌, ◌<◌, length, get_or};
 ghost use Rattle.std.proofs.Math.Seq.{paste};
 ghost use Rattle.mesh_balance_spec.specs.Soup.{flip_tri};

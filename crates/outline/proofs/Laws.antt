@@ -7,7 +7,7 @@ use native.Mathlib.Numerals.{add-one}
 use native.Mathlib.Nat.{not-suc-le-zero, le_of_suc-le-suc}
 use native.Mathlib.Omega.{arith}
 use lib.ListN.{length, get_or, take, drop, set, length-drop, length-set}
-use lib.Seq.{drop-cons, take-suc-set, drop-set-lt, get_or-take, length-take-le, take-take, drop-drop}
+use lib.Seq.{drop-cons, take-suc-set, drop-set-lt, get_or-take, length-take-le, take-take}
 use lib.Ieee.{Float, nan, binary64, add, div, eq, of_bits}
 use borrow.Author.Tests.{lt-ltb}
 use Rattle.outline.specs.Corners.{point, same}

@@ -1,4 +1,6 @@
 // The corners of an outline in a lent list, two floats to a corner: reading, writing and comparing them.
+#![tactic(auto)]
+
 ghost use Rattle.std.specs.Prelude.{◌≡◌, ◌+◌, ◌*◌, ◌<◌, ◌≤◌, length};
 ghost use Rattle.outline.specs.Corners.{point, same as same·};
 ghost use Rattle.outline.specs.Slices.{WroteCorner};

@@ -1,1 +1,2 @@
 // Theorems on the clipper's definitions: see specs/.
+#![tactic(auto)]

@@ -1,4 +1,6 @@
 // The corners of an outline without equal neighbours: clean_polygon of src/tessellate.rs.
+#![tactic(auto)]
+
 ghost use Rattle.std.specs.Prelude.{◌≡◌, [], ◌+◌, ◌*◌, ◌≤◌, length, take};
 ghost use Rattle.outline.specs.Clean.{ends_in, pushed, gathered, stay as stay·, clean_polygon};
 ghost use Rattle.outline.specs.Slices.{Grew, Holds};

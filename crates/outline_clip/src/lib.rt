@@ -1,4 +1,6 @@
 // An outline clipped by itself: the refusals, and what the lent triangles hold at the end (docs/SCOPE.md, "Refusals").
+#![tactic(auto)]
+
 ghost use Rattle.std.specs.Prelude.{◌≡◌, ◌++◌, ℕ, ◌≤◌, length, take, drop, replicate};
 ghost use Rattle.outline_clip.specs.Clip.{clip_refused, clip_outline, outcome_of};
 

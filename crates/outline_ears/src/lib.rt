@@ -1,6 +1,8 @@
 // The searches of the ear clipper (src/tessellate.rs, triangulate_polygon). v is the corner list, two floats to a corner. The Rust's idx, the numbers of the
 // corners that remain, is the first m numbers of the array idx. The first m of kinds say what the Rust's cross makes of the corner
 // at each index, which the searches read.
+#![tactic(auto)]
+
 ghost use Rattle.std.specs.Prelude.{◌≡◌, ◌+◌, ◌-◌, ◌%◌, ◌<◌, ◌≤◌, length, take};
 ghost use Rattle.outline_ears.specs.Ears.{blocked as blocked·, triangle_at, is_ear, first_ear};
 ghost use Rattle.outline_ears.specs.Inside.{Inside};

@@ -1,6 +1,8 @@
 // The corners that remain in the ear clipper (src/tessellate.rs, triangulate_polygon), with their kinds, what the crosses make of them, which its searches
 // read. v is the corner list, two floats to a corner. The Rust's idx is the first m numbers of the array idx, and the first m of kinds are the kinds of the
 // corners there.
+#![tactic(auto)]
+
 ghost use Rattle.std.specs.Prelude.{◌≡◌, ◌-◌, ◌<◌, ◌≤◌, length, take};
 ghost use Rattle.outline_ears.specs.Ears.{counting as counting·};
 ghost use Rattle.outline_ears.specs.Inside.{Inside};

@@ -1,4 +1,6 @@
 // One triangle of the ear clipper (src/tessellate.rs, triangulate_polygon). v is the corner list, two floats to a corner.
+#![tactic(auto)]
+
 ghost use Rattle.std.specs.Prelude.{◌≡◌, ◌+◌, ◌*◌, ◌<◌, length};
 ghost use Rattle.outline.specs.Corners.{point};
 ghost use Rattle.outline_triangle.specs.Triangle.{cross as cross·, tolerance as tolerance·, in_triangle, blocks as blocks·};

@@ -1,4 +1,6 @@
 // The ear clipper over lent memory (src/tessellate.rs, triangulate_polygon).
+#![tactic(auto)]
+
 mod lists;
 mod passes;
 

@@ -1,4 +1,6 @@
 // The winding of an outline's corners (src/tessellate.rs, signed_area and ccw_polygon), and the axes of its plane (src/primitives/poly.rs).
+#![tactic(auto)]
+
 ghost use Rattle.std.specs.Prelude.{◌≡◌, ◌*◌, ◌≤◌, length, take};
 ghost use Rattle.outline.specs.Area.{wedge as wedge·, signed_area};
 ghost use Rattle.outline.specs.Ccw.{swapped, reversed, ccw_polygon, prepared};

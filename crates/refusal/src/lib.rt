@@ -1,4 +1,6 @@
 // The refusals and their numbers (docs/SCOPE.md, "Refusals").
+#![tactic(auto)]
+
 ghost use Rattle.std.specs.Prelude.{◌≡◌};
 ghost use Rattle.refusal.specs.Accepted.{is_accepted};
 ghost use Rattle.refusal.specs.Number.{number_of};

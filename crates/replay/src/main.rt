@@ -1,5 +1,7 @@
 // Reads a case file from standard input, runs the library and writes the result file to standard output (tests/README.md).
 // The arrays have the largest sizes that a case may lend. A case that asks for more, or is cut off, ends the run.
+#![tactic(auto)]
+
 mod calls;
 mod input;
 mod loading;

@@ -1,4 +1,6 @@
 // What the calls of a case do to the meshes A and B of a run, but for the library's own calls. There is no input or output here.
+#![tactic(auto)]
+
 mod agreement;
 mod exchanging;
 mod session;

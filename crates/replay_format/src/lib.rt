@@ -1,4 +1,6 @@
 // The byte format of case files (tests/README.md): the head of a case, operations.
+#![tactic(auto)]
+
 mod head;
 mod ops;
 

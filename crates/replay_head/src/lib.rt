@@ -1,4 +1,6 @@
 // A case by the bytes of its head: its shape and coordinate systems, its operations, and what it asks for. There is no input or output here.
+#![tactic(auto)]
+
 mod asked;
 mod case;
 mod kept;

@@ -1,4 +1,6 @@
 // Lent slices before and between calls: how many places two of them share, filling, and exchange.
+#![tactic(auto)]
+
 mod filling;
 mod float_exchange;
 mod lengths;

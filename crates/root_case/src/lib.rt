@@ -1,4 +1,6 @@
 // The six cases of the square root, told by the fields of a float's pattern.
+#![tactic(auto)]
+
 ghost use Rattle.std.specs.Prelude.{◌≡◌};
 ghost use Rattle.root_case.specs.Case.{root_case};
 

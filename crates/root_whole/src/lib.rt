@@ -1,4 +1,6 @@
 // Square roots of whole numbers, to the nearest whole number: a guess that is tested by its square, and else digit by digit.
+#![tactic(auto)]
+
 ghost use Rattle.std.specs.Prelude.{◌≡◌, ◌+◌, ◌*◌, ◌^◌, ◌<◌, ◌≤◌};
 ghost use Rattle.root_whole.specs.Whole.{near_root};
 

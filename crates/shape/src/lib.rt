@@ -1,4 +1,6 @@
 // What a user draws: the shape, its coordinate system and the resolution. The specs say which drawings are refused; `shape_check` checks them.
+#![tactic(auto)]
+
 mod lists;
 mod rotated;
 mod systems;

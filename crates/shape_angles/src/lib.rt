@@ -1,4 +1,6 @@
 // Refusal 2 of docs/SCOPE.md on what was drawn: the absolute value of an angle is above 1,000.
+#![tactic(auto)]
+
 ghost use Rattle.std.specs.Prelude.{◌≡◌, take};
 ghost use Rattle.shape.specs.Drawing as Drawing;
 

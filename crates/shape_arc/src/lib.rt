@@ -1,4 +1,6 @@
 // TessellationOptions::arc_segments of src/tessellate.rs, and its test for a full turn.
+#![tactic(auto)]
+
 ghost use Rattle.std.specs.Prelude.{◌≡◌, ◌≤◌, max};
 ghost use Rattle.shape_arc.specs.Arc.{counted_span, arc_share, arc_segments, is_full};
 

@@ -1,4 +1,6 @@
 // docs/SCOPE.md's checks on what was drawn, before anything is computed: refusals 3, 4, 1 and 2, in this order.
+#![tactic(auto)]
+
 mod limits;
 
 ghost use Rattle.std.specs.Prelude.{◌≡◌};

@@ -1,4 +1,6 @@
 // A shape by the number of its kind, its directions and its numbers in the Rust's field order, as tests hold it.
+#![tactic(auto)]
+
 ghost use Rattle.std.specs.Prelude.{◌≡◌};
 ghost use Rattle.shape_fields.specs.Fields.{point_at, pointed, shape_of};
 

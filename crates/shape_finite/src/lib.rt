@@ -1,4 +1,6 @@
 // Refusal 1 of docs/SCOPE.md on what was drawn: a float is an infinity or a NaN.
+#![tactic(auto)]
+
 ghost use Rattle.std.specs.Prelude.{◌≡◌, take};
 ghost use Rattle.std.specs.Float.Ieee.Scale.{finite};
 ghost use Rattle.slice.specs.Every.{every};

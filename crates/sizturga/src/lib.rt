@@ -1,4 +1,6 @@
 // The library for C: include/sizturga.h declares its calls. A slice is a pointer and a length there.
+#![tactic(auto)]
+
 ghost use Rattle.std.specs.Prelude.{◌≡◌, length};
 ghost use Rattle.sizturga.specs.Answers.{FixtureCall};
 

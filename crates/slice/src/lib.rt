@@ -1,5 +1,7 @@
 // What one lent slice holds: how many places of three it has, whether its first elements pass a test,
 // and zeros from a place on to its end.
+#![tactic(auto)]
+
 ghost use Rattle.std.specs.Prelude.{◌≡◌, ◌≤◌, length, take, ltb};
 ghost use Rattle.std.specs.Float.Ieee.{of_bits};
 ghost use Rattle.std.specs.Float.{binary64};

@@ -1,4 +1,6 @@
 // Floats from -2^400 to 2^400. Products and sums of a few of them are finite, so what is computed of them needs no test.
+#![tactic(auto)]
+
 ghost use Rattle.std.specs.Prelude.{◌≡◌, ◌≤◌, length, take};
 ghost use Rattle.std.specs.Float.Ieee.Scale.{finite};
 ghost use Rattle.slice.specs.Every.{every};

@@ -1,4 +1,6 @@
 // Lists of floats and of 32-bit numbers, one after the other in bytes.
+#![tactic(auto)]
+
 ghost use Rattle.std.specs.Prelude.{◌≡◌, ◌*◌, ◌≤◌, length};
 ghost use Rattle.slice_byte_lists.specs.Lists.{floats_of, words_of, with_floats, with_words};
 

@@ -1,4 +1,6 @@
 // 32-bit numbers in bytes, written or turned round so that the first number stands last.
+#![tactic(auto)]
+
 ghost use Rattle.std.specs.Prelude.{◌≡◌, ◌++◌, map, reverse, ◌+◌, ◌-◌, ◌*◌, ◌/◌, ◌≤◌, min, length, take};
 ghost use Rattle.slice_byte_lists.specs.Lists.{words_of, bytes_of_words};
 ghost use Rattle.slice_byte_turn.specs.Turn.{Raised, ZeroBefore, exchanged};

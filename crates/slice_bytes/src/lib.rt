@@ -1,4 +1,6 @@
 // Little-endian numbers of 4 and 8 bytes in lent slices, and floats at places of such slices.
+#![tactic(auto)]
+
 mod bytes;
 mod floats;
 

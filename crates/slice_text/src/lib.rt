@@ -1,4 +1,6 @@
 // Text in a lent slice of bytes. Each function puts its text from place at on, as far as it fits, and answers the place after it.
+#![tactic(auto)]
+
 ghost use Rattle.std.specs.Prelude.{◌≡◌, replicate};
 ghost use Rattle.slice_text.specs.Line.{line, with_byte, Puts};
 ghost use Rattle.slice_text.specs.Numbers.{decimal_of, hex_of, right_of};

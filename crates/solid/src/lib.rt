@@ -1,4 +1,6 @@
 // Each solid of tessellate in src/tessellate.rs, streamed into the welder.
+#![tactic(auto)]
+
 mod outlines;
 mod shapes;
 mod single;

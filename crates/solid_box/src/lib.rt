@@ -1,4 +1,6 @@
 // Parameter boxes, streamed into the welder: Soup::param_box and box_shape of src/tessellate.rs.
+#![tactic(auto)]
+
 mod box_shape;
 mod faces;
 mod flat;

@@ -1,4 +1,6 @@
 // Grids over surfaces, streamed into the welder: Soup::quad and Soup::grid of src/tessellate.rs.
+#![tactic(auto)]
+
 mod grid;
 mod guesses;
 

@@ -1,4 +1,6 @@
 // Solids of several parts, each welded among its own vertices: the cases MultiBox and Wire of tessellate in src/tessellate.rs.
+#![tactic(auto)]
+
 mod multi_box;
 mod wire;
 

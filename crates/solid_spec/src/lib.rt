@@ -1,1 +1,2 @@
 // The soup of each solid as definitions, and the theorems about them. No code.
+#![tactic(auto)]

@@ -1,4 +1,6 @@
 // The maps of parameter boxes: src/coords.rs, and frame and the closure of cylinder of src/tessellate.rs.
+#![tactic(auto)]
+
 ghost use Rattle.std.specs.Prelude.{◌≡◌};
 ghost use Rattle.solid_spec.specs.Coords.{cylindrical_to_cartesian, to_cartesian};
 ghost use Rattle.solid_spec.specs.Cylinder as Cylinder;

@@ -1,4 +1,6 @@
 // The points of outlines: plane_point and the closures of extruded_polygon and rotpoly of src/tessellate.rs.
+#![tactic(auto)]
+
 ghost use Rattle.std.specs.Prelude.{◌≡◌, ◌≤◌, ◌<◌};
 ghost use Rattle.solid_spec.specs.Outline as Outline;
 ghost use Rattle.surface_outline.specs.Pieces as Pieces;

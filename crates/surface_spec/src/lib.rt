@@ -1,5 +1,7 @@
 // The types of a surface, for code that takes one by cases. No functions: the specs have the points of each surface, and the proofs that the grids of
 // the solids are grids over surfaces.
+#![tactic(auto)]
+
 use math::Vec3;
 
 // An axis of a parameter box from lo to hi, cut into n parts; a periodic one ends where it starts.

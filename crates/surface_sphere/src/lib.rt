@@ -1,4 +1,6 @@
 // The points of a sphere: the closure of sphere of src/tessellate.rs.
+#![tactic(auto)]
+
 ghost use Rattle.std.specs.Prelude.{◌≡◌, ◌≤◌, ◌<◌};
 ghost use Rattle.solid_spec.specs.Sphere as Sphere;
 

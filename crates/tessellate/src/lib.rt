@@ -1,5 +1,7 @@
 // The call tessellate of src/tessellate.rs over lent memory: a shape with its list, its system, its resolution and its operations
 // becomes a mesh in the lent slices, or is refused.
+#![tactic(auto)]
+
 ghost use Rattle.mesh_made.specs.Made.{lent};
 ghost use Rattle.mesh_made.specs.Steps.{Makes};
 ghost use Rattle.tessellate_spec.specs.Outcome.{job, final_mesh, refusal_of};

@@ -1,1 +1,2 @@
 // The outcome of the call `tessellate`: definitions, in specs/.
+#![tactic(auto)]

@@ -1,4 +1,6 @@
 // The drawing of a solid: its parts welded, then refusals 5 and 7, then the mesh to its end.
+#![tactic(auto)]
+
 ghost use Rattle.std.specs.Prelude.{◌≡◌, false, length};
 ghost use Rattle.mesh_spec.specs.Mesh.{from_parts};
 ghost use Rattle.mesh_made.specs.Made.{lent, short_work};

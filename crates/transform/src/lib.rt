@@ -1,4 +1,6 @@
 // Operations that move, turn and scale a mesh, and the matrix that a list of them makes: src/transform.rs.
+#![tactic(auto)]
+
 ghost use Rattle.std.specs.Prelude.{◌≡◌, min, take};
 ghost use Rattle.transform.specs.Angle as Angle;
 ghost use Rattle.transform.specs.Ops as Ops;

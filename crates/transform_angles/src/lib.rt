@@ -1,4 +1,6 @@
 // Check 2 of docs/SCOPE.md on the operations: their angles.
+#![tactic(auto)]
+
 ghost use Rattle.std.specs.Prelude.{◌≡◌, take};
 ghost use Rattle.transform.specs.Angle as Angle;
 ghost use Rattle.transform.specs.Checks as Checks;

@@ -1,4 +1,6 @@
 // Points and operations in bytes.
+#![tactic(auto)]
+
 ghost use Rattle.std.specs.Prelude.{◌≡◌, ◌+◌, ◌*◌, ◌≤◌, length};
 ghost use Rattle.transform_bytes.specs.Layout.{vec_at, row_at, matrix_at, op_floats, op_of_kind};
 

@@ -1,4 +1,6 @@
 // Checks 4 and 1 of docs/SCOPE.md on the operations: their count and their numbers.
+#![tactic(auto)]
+
 ghost use Rattle.std.specs.Prelude.{◌≡◌, take};
 ghost use Rattle.transform.specs.Checks as Checks;
 

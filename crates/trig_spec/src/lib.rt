@@ -1,4 +1,5 @@
 // Sine and cosine as definitions, in specs/. No functions.
+#![tactic(auto)]
 
 // The sine and the cosine of one angle.
 #[derive(Clone, Copy)]

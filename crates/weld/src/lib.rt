@@ -1,5 +1,7 @@
 // The state in which from_soup of src/tessellate.rs runs, one triangle at a time: the soup is not stored. A mesh lies in lent
 // slices, three floats a vertex and three numbers a triangle; the work slice holds the hash chains of `weld_hash`.
+#![tactic(auto)]
+
 ghost use Rattle.std.specs.Prelude.{◌*◌, ◌/◌, ◌≤◌, length};
 ghost use Rattle.weld.specs.Rep.{Begun, Parted};
 

@@ -1,4 +1,6 @@
 // The bucket of a point in the hash chains of the work slice.
+#![tactic(auto)]
+
 ghost use Rattle.std.specs.Prelude.{◌≡◌, ◌+◌, ◌*◌, ◌<◌, ◌≤◌, ◌^◌};
 ghost use Rattle.weld_vertex.specs.Points.{Clean};
 ghost use Rattle.weld_bucket.specs.Bucket.{spread_of, middle_of, bucket_of};

@@ -1,5 +1,7 @@
 // One cell of Soup::grid of src/tessellate.rs: a quad, turned where flip says so. Two cells that follow each other share two points, so
 // the numbers of these are known in the second.
+#![tactic(auto)]
+
 ghost use Rattle.std.specs.Prelude.{◌≡◌, true, cond};
 ghost use Rattle.weld.specs.Rep.{held, Ready};
 ghost use Rattle.weld_quad.specs.Quads.{Known, Numbered};

@@ -1,4 +1,6 @@
 // TriMesh::from_soup of src/tessellate.rs over lent memory: a soup in a slice, nine floats a triangle, becomes a mesh in the lent slices, or is refused.
+#![tactic(auto)]
+
 ghost use Rattle.std.specs.Prelude.{[], ◌∷◌, ◌≡◌, ◌+◌, ◌*◌, ◌≤◌, length};
 ghost use Rattle.weld.specs.Rep.{held, Ready, Runs};
 ghost use Rattle.mesh_spec.specs.Mesh.{from_soup};

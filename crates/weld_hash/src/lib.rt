@@ -1,4 +1,6 @@
 // The hash chains in the work slice. They find the vertex that equals a point, as the `HashMap` of from_soup does.
+#![tactic(auto)]
+
 ghost use Rattle.std.specs.Prelude.{◌≡◌, ◌*◌, ◌<◌, ◌≤◌, ◌^◌, length};
 ghost use Rattle.weld_vertex.specs.Points.{Clean};
 ghost use Rattle.weld_bucket.specs.Bucket.{bucket_of};

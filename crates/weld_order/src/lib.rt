@@ -1,5 +1,7 @@
 // Points that come row by row, as those of a sphere do: each row below the one before, and in a row x falls and then, on the other side, rises.
 // Whether a point is new is seen from the last one then, with no search.
+#![tactic(auto)]
+
 ghost use Rattle.std.specs.Prelude.{◌≡◌, true, false};
 ghost use Rattle.weld_vertex.specs.Points.{Clean};
 ghost use Rattle.weld_order.specs.Rows.{beside, among, first_row, next_row, Follows};

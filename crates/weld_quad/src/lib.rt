@@ -1,4 +1,6 @@
 // Soup::quad of src/tessellate.rs: a quad is two triangles, welded together, so that each of its points is looked up once at most.
+#![tactic(auto)]
+
 ghost use Rattle.std.specs.Prelude.{◌≡◌, ◌&&◌};
 ghost use Rattle.mesh_balance_spec.specs.Grid.{quad};
 ghost use Rattle.math.specs.Vec.{v_finite};

@@ -1,4 +1,6 @@
 // The number of a point that came out of `+ 0.0`: that of the first equal vertex of its part, or the next one.
+#![tactic(auto)]
+
 ghost use Rattle.std.specs.Prelude.{◌<◌};
 ghost use Rattle.weld_vertex.specs.Points.{Clean};
 ghost use Rattle.weld.specs.Rep.{Linked};

@@ -1,5 +1,7 @@
 // One turn of the loop of from_soup of src/tessellate.rs: the three points of a triangle get numbers, and the triangle stays where
 // they differ.
+#![tactic(auto)]
+
 ghost use Rattle.std.specs.Prelude.{[], ◌∷◌};
 ghost use Rattle.weld.specs.Rep.{held, Ready, Runs};
 

@@ -1,4 +1,6 @@
 // Points as the welder compares them, and a vertex of a lent slice compared with one.
+#![tactic(auto)]
+
 ghost use Rattle.std.specs.Prelude.{◌≡◌, ◌*◌, ◌≤◌, length};
 ghost use Rattle.mesh_spec.specs.Mesh.{same_point};
 ghost use Rattle.weld_vertex.specs.Points.{is_at};

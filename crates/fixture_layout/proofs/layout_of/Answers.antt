@@ -60,7 +60,7 @@ returns-in-25 c = of_kind (λ (k : ℕ). layout_of k c.args.kind) 25 c.in-25.is 
 pub returns-in_default : goal.returns-in_default
 unfolding layout_of
 returns-in_default c =
-    let n = c.in_default.rest in
+    let n = c.in_default.in_default-own.rest in
     let k = c.args.tag in
     simp (
       ne_eqb k 1 n.0.0.0.0.0.0.0.0.0.0.0.1,

@@ -1,5 +1,5 @@
 -- `ieee_whole::as_float` meets its contract. Assumes nothing.
-use Rattle.std.proofs.Common.{T, ℤ, sym, ap, subst, rules}
+use Rattle.std.proofs.Common.{T, ℤ, sym, ap, subst}
 use lib.Ieee.{binary64, of_int, in_float}
 use Rattle.ieee_whole.proofs.Signed.{read, in_float_lem}
 use Rattle.ieee_whole.proofs.as_float.Goals as goal

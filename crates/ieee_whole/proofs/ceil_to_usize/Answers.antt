@@ -3,7 +3,7 @@ use Rattle.std.proofs.Common.{◌≡◌, ℕ, ◌+◌, true, false, T, pos, sym,
 use lib.Ieee as Ieee
 use lib.Ieee.{binary64, of_bits, fits}
 use Rattle.ieee.specs.Same.{true_T}
-use Rattle.ieee_whole.proofs.Ceiling.{Below, below, far_asks, far, past, not_above}
+use Rattle.ieee_whole.proofs.Ceiling.{below, far_asks, far, past, not_above}
 use Rattle.ieee_whole.proofs.ceil_to_usize.Goals as goal
 
 pub truncating_f64_to_u64-t-requires : goal.truncating_f64_to_u64-t-requires
@@ -25,7 +25,7 @@ pub truncating_f64_to_u64-requires : goal.truncating_f64_to_u64-requires
 unfolding of_bits
 truncating_f64_to_u64-requires c =
     let k = far_asks c.args.y c.if-y.true c.if-y-3.true in
-     record { lower_bound = k.0; upper_bound = k.1 }
+    record { lower_bound = k.0; upper_bound = k.1 }
 
 pub returns-then-t-y : goal.returns-then-t-y
 unfolding of_bits

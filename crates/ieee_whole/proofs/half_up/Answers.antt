@@ -17,4 +17,4 @@ overflow_add-result c = omega (arith, (facts c.args.a c.well_formed.0.1 c.requir
 pub returns : goal.returns
 returns c =
     let is = ap (λ (u : ℕ). (u + 1) / 2) c.truncating_f64_to_u64.ensures ∙ (facts c.args.a c.well_formed.0.1 c.requires.fact_1 c.requires.fact_2).2 in
-     record { fact_1 = is; fact_2 = subst (λ (u : ℕ). u ≤ 2 ^ 52) (sym is) (facts c.args.a c.well_formed.0.1 c.requires.fact_1 c.requires.fact_2).3 }
+    record { fact_1 = is; fact_2 = subst (λ (u : ℕ). u ≤ 2 ^ 52) (sym is) (facts c.args.a c.well_formed.0.1 c.requires.fact_1 c.requires.fact_2).3 }

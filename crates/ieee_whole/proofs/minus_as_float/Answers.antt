@@ -1,5 +1,5 @@
 -- `ieee_whole::minus_as_float` meets its contract. Assumes nothing.
-use Rattle.std.proofs.Common.{T, ℤ, sym, ap, subst, rules}
+use Rattle.std.proofs.Common.{T, ℤ, sym, ap, subst}
 use lib.Ieee.{binary64, of_int, in_float}
 use Rattle.ieee_whole.proofs.Signed.{sub_fits, minus_back, minus_in_float}
 use Rattle.ieee_whole.proofs.minus_as_float.Goals as goal

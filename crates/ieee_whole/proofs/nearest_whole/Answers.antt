@@ -1,5 +1,5 @@
 -- `ieee_whole::nearest_whole` meets its contract: a law for each way through its tests. Assumes nothing.
-use Rattle.std.proofs.Common.{◌≡◌, ◌%◌, true, T, sym, ap, ◌∙◌, subst, rules}
+use Rattle.std.proofs.Common.{◌≡◌, ◌%◌, true, T, sym, ap, ◌∙◌, subst}
 use lib.Ieee.{Float, binary64, fits, of_bits, neg}
 use Rattle.ieee_whole.proofs.Near.{whole, near_neg_asks, near_neg, near_pos_asks, near_pos}
 use Rattle.ieee_whole.proofs.Far.{mid_neg_cut, mid_neg, huge_neg, mid_pos_cut, mid_pos, huge_pos}
@@ -18,7 +18,7 @@ pub truncating_f64_to_u64-requires : goal.truncating_f64_to_u64-requires
 unfolding of_bits neg
 truncating_f64_to_u64-requires c =
     let k = mid_neg_cut c.args.p c.if-p.true c.if-p-3.true in
-     record { lower_bound = k.0; upper_bound = k.1 }
+    record { lower_bound = k.0; upper_bound = k.1 }
 
 pub half_up-n-requires-then-p-4 : goal.half_up-n-requires-then-p-4
 unfolding of_bits
@@ -30,7 +30,7 @@ pub truncating_f64_to_u64-requires-then-p-5 : goal.truncating_f64_to_u64-require
 unfolding of_bits
 truncating_f64_to_u64-requires-then-p-5 c =
     let k = mid_pos_cut c.args.p c.if-p-4.false c.if-p-5.true in
-     record { lower_bound = k.0; upper_bound = k.1 }
+    record { lower_bound = k.0; upper_bound = k.1 }
 
 pub returns-then-p-2 : goal.returns-then-p-2
 unfolding of_bits neg

@@ -1,13 +1,12 @@
 -- `math_matrix::row_of` meets its contract. Assumes nothing.
 use mathlib.Core.Path.{◌≡◌, sym, ap}
-use Prim.Native.Nat.{ℕ, ◌+◌, ◌*◌}
+use Prim.Native.Nat.{ℕ, ◌*◌}
 use native.Mathlib.Nat.{add-zero}
 use lib.ListN.{get_or}
 use lib.Ieee.{nan}
 use Rattle.math_matrix.specs.declared.Mat4.{Mat4}
 use Rattle.math_matrix.specs.declared.Row.{Row}
 use Rattle.math_matrix.specs.Mat.{row_of, entry}
-use borrow.Author.Rules.{rules}
 use Rattle.math_matrix.proofs.row_of.Goals as goal
 
 -- a row starts at its number times 4

@@ -1,5 +1,4 @@
 -- `math_matrix::scaling` meets its contract. Assumes nothing.
-use borrow.Author.Rules.{rules}
 use lib.Ieee.{of_bits}
 use Rattle.math_matrix.specs.Mat.{scaling}
 use Rattle.math_matrix.specs.MatLaws.{made}

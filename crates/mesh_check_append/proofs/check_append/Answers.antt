@@ -1,4 +1,5 @@
 -- `mesh_check_append::check_append` meets its contract: the checks in their order, and the union of the boxes. Assumes nothing.
+use Rattle.std.proofs.Common.{ap, not}
 use mathlib.Core.Path.{refl, ◌∙◌}
 use lib.ListN.{length}
 use Rattle.mesh_spec.specs.Mesh.{append}
@@ -20,7 +21,7 @@ returns-then-bad_mesh c =
     let e = c in
     let a = e.args in
     let s = state a.mesh a.vertices.now a.triangles.now in
-    let o = state a.other a.other-vertices.now a.other-triangles.now in
+    let o = state a.other a.other_vertices.now a.other_triangles.now in
     c.boxed_with.ensures ∙ refused_boxed BadMesh (append_refusal s o) e.zero_box-zeros.result (bounding_box (append (mesh_of s) (mesh_of o))) refl
     (append_bad s o (bad_test s o e.bad_mesh.ensures e.bad_mesh-2.ensures e.if-bad_mesh.true))
 
@@ -28,7 +29,7 @@ pub finite_box-found-requires : goal.finite_box-found-requires
 finite_box-found-requires c =
     let a = c.args in
     let s = state a.mesh a.vertices.now a.triangles.now in
-    let o = state a.other a.other-vertices.now a.other-triangles.now in
+    let o = state a.other a.other_vertices.now a.other_triangles.now in
     (sound s (neither (bad_mesh s) (bad_mesh o) (bad_test s o c.bad_mesh.ensures c.bad_mesh-2.ensures c.if-bad_mesh.false)).0).vertices
 
 pub finite_box-more-requires : goal.finite_box-more-requires
@@ -36,7 +37,7 @@ finite_box-more-requires c =
     let e = c in
     let a = e.args in
     let s = state a.mesh a.vertices.now a.triangles.now in
-    let o = state a.other a.other-vertices.now a.other-triangles.now in
+    let o = state a.other a.other_vertices.now a.other_triangles.now in
     (sound o (neither (bad_mesh s) (bad_mesh o) (bad_test s o e.bad_mesh.ensures e.bad_mesh-2.ensures e.if-bad_mesh.false)).1).vertices
 
 pub returns-then-not-finite : goal.returns-then-not-finite
@@ -45,12 +46,12 @@ returns-then-not-finite c =
     let e = b in
     let a = e.args in
     let s = state a.mesh a.vertices.now a.triangles.now in
-    let o = state a.other a.other-vertices.now a.other-triangles.now in
+    let o = state a.other a.other_vertices.now a.other_triangles.now in
     let f = b.finite_box-found in
     let g = b.finite_box-more in
     let d = bad_test s o e.bad_mesh.ensures e.bad_mesh-2.ensures e.if-bad_mesh.false in
     c.boxed_with-then-not-finite.ensures ∙ refused_boxed NotFinite (append_refusal s o) f.result.bounds (bounding_box (append (mesh_of s) (mesh_of o))) refl
-    (append_not_finite s o d (finite_tests s o f.result g.result f.ensures g.ensures c.if-not-finite.true))
+    (append_not_finite s o d (finite_tests s o f.result g.result f.ensures g.ensures (ap not c.if-not-finite.true)))
 
 pub returns-then-not-right : goal.returns-then-not-right
 returns-then-not-right c =
@@ -58,20 +59,20 @@ returns-then-not-right c =
     let e = b in
     let a = e.args in
     let s = state a.mesh a.vertices.now a.triangles.now in
-    let o = state a.other a.other-vertices.now a.other-triangles.now in
+    let o = state a.other a.other_vertices.now a.other_triangles.now in
     let f = b.finite_box-found in
     let g = b.finite_box-more in
     let d = bad_test s o e.bad_mesh.ensures e.bad_mesh-2.ensures e.if-bad_mesh.false in
-    let p = finite_tests s o f.result g.result f.ensures g.ensures c.if-not-finite.false in
+    let p = finite_tests s o f.result g.result f.ensures g.ensures (ap not c.if-not-finite.false) in
     c.boxed_with-then-not-right.ensures ∙ refused_boxed BadMesh (append_refusal s o) f.result.bounds (bounding_box (append (mesh_of s) (mesh_of o))) refl
-    (append_bad_box s o d p (box_tests s o f.result g.result f.ensures g.ensures b.same_box.ensures b.same_box-2.ensures c.if-not-right.true))
+    (append_bad_box s o d p (box_tests s o f.result g.result f.ensures g.ensures b.same_box.ensures b.same_box-2.ensures (ap not c.if-not-right.true)))
 
 pub overflow_add-n : goal.overflow_add-n
 overflow_add-n c =
     let e = c in
     let a = e.args in
     let s = state a.mesh a.vertices.now a.triangles.now in
-    let o = state a.other a.other-vertices.now a.other-triangles.now in
+    let o = state a.other a.other_vertices.now a.other_triangles.now in
     let l = neither (bad_mesh s) (bad_mesh o) (bad_test s o e.bad_mesh.ensures e.bad_mesh-2.ensures e.if-bad_mesh.false) in
     let m = places_limit s.mesh.vertices (length s.vertices) (vertices_fit s l.0) in
     omega (arith, m, places_limit o.mesh.vertices (length o.vertices) (vertices_fit o l.1))
@@ -81,7 +82,7 @@ overflow_add-k c =
     let e = c in
     let a = e.args in
     let s = state a.mesh a.vertices.now a.triangles.now in
-    let o = state a.other a.other-vertices.now a.other-triangles.now in
+    let o = state a.other a.other_vertices.now a.other_triangles.now in
     let l = neither (bad_mesh s) (bad_mesh o) (bad_test s o e.bad_mesh.ensures e.bad_mesh-2.ensures e.if-bad_mesh.false) in
     let m = places_limit s.mesh.triangles (length s.triangles) (triangles_fit s l.0) in
     omega (arith, m, places_limit o.mesh.triangles (length o.triangles) (triangles_fit o l.1))
@@ -92,13 +93,13 @@ returns-then-counted_places-n c =
     let e = b in
     let a = e.args in
     let s = state a.mesh a.vertices.now a.triangles.now in
-    let o = state a.other a.other-vertices.now a.other-triangles.now in
+    let o = state a.other a.other_vertices.now a.other_triangles.now in
     let f = b.finite_box-found in
     let g = b.finite_box-more in
     let d = bad_test s o e.bad_mesh.ensures e.bad_mesh-2.ensures e.if-bad_mesh.false in
     let l = neither (bad_mesh s) (bad_mesh o) d in
-    let p = finite_tests s o f.result g.result f.ensures g.ensures c.if-not-finite.false in
-    let q = box_tests s o f.result g.result f.ensures g.ensures b.same_box.ensures b.same_box-2.ensures c.if-not-right.false in
+    let p = finite_tests s o f.result g.result f.ensures g.ensures (ap not c.if-not-finite.false) in
+    let q = box_tests s o f.result g.result f.ensures g.ensures b.same_box.ensures b.same_box-2.ensures (ap not c.if-not-right.false) in
     c.boxed_with-then-counted_places-n.ensures ∙ refused_boxed NoRoom (append_refusal s o) f.result.bounds (bounding_box (append (mesh_of s) (mesh_of o))) refl
     (append_no_room s o d p q (room_test s o (sound s l.0) (sound o l.1) c.counted_places.ensures c.counted_places-2.ensures c.if-counted_places-n.true))
 
@@ -108,13 +109,13 @@ returns c =
     let e = b in
     let a = e.args in
     let s = state a.mesh a.vertices.now a.triangles.now in
-    let o = state a.other a.other-vertices.now a.other-triangles.now in
+    let o = state a.other a.other_vertices.now a.other_triangles.now in
     let f = b.finite_box-found in
     let g = b.finite_box-more in
     let d = bad_test s o e.bad_mesh.ensures e.bad_mesh-2.ensures e.if-bad_mesh.false in
     let l = neither (bad_mesh s) (bad_mesh o) d in
-    let p = finite_tests s o f.result g.result f.ensures g.ensures c.if-not-finite.false in
-    let q = box_tests s o f.result g.result f.ensures g.ensures b.same_box.ensures b.same_box-2.ensures c.if-not-right.false in
+    let p = finite_tests s o f.result g.result f.ensures g.ensures (ap not c.if-not-finite.false) in
+    let q = box_tests s o f.result g.result f.ensures g.ensures b.same_box.ensures b.same_box-2.ensures (ap not c.if-not-right.false) in
     let w = append_accepted s o d p q (room_test s o (sound s l.0) (sound o l.1) c.counted_places.ensures c.counted_places-2.ensures c.if-counted_places-n.false) in
     let u = c.union.ensures ∙ union_box s o f.result g.result f.ensures g.ensures e.shared_slice_known-1.given e.shared_slice_known-3-1.given in
     c.boxed_with-2.ensures ∙ (λ j. boxed_with (w j) (u j))

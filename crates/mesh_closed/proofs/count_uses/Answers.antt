@@ -26,8 +26,9 @@ loop-i-preserved c =
 pub overflow_add-n : goal.overflow_add-n
 overflow_add-n c =
     let a = c.args in
+    let l = c.loop-i in
     let t = a.t.now in
-    omega (arith, loop-again c, uses_most a.u a.v (tris t), length_tris_whole t)
+    omega (arith, uses_turn a.u a.v (tris t) l.i l.n c.triangle_uses-n.result (triple_at t l.i 0) (next_tris t l.i 0 (omega arith)) c.triangle_uses-n.ensures l.invariant, uses_most a.u a.v (tris t), length_tris_whole t)
 
 pub overflow_add-i : goal.overflow_add-i
 overflow_add-i c = omega arith

@@ -1,4 +1,5 @@
 -- `mesh_made::judge` meets its contract: a case for each way through. Assumes nothing.
+use Rattle.std.proofs.Common.{not}
 use mathlib.Core.Path.{ap, ◌∙◌}
 use borrow.Author.Rules.{rules}
 use Rattle.math.specs.declared.BoundingBox.{BoundingBox}
@@ -11,12 +12,12 @@ use Rattle.mesh_made.proofs.judge.Goals as goal
 pub returns-then-not-finite : goal.returns-then-not-finite
 returns-then-not-finite c =
     let a = c.args in
-    c.refused.ensures ∙ judged_infinite a.w a.vertices.now c.if-not-finite.true
+    c.refused.ensures ∙ judged_infinite a.w a.vertices.now (ap not c.if-not-finite.true)
 
 pub returns-then-not-room : goal.returns-then-not-room
 returns-then-not-room c =
     let a = c.args in
-    c.refused-then-not-room.ensures ∙ judged_full a.w a.vertices.now c.if-not-finite.false c.if-not-room.true
+    c.refused-then-not-room.ensures ∙ judged_full a.w a.vertices.now (ap not c.if-not-finite.false) (ap not c.if-not-room.true)
 
 pub returns : goal.returns
 returns c =
@@ -25,4 +26,4 @@ returns c =
     c.accepted.ensures
     ∙ ap {B = Made} accepted_with c.record_of.ensures
     ∙ ap {B = Made} (λ (b : BoundingBox). accepted_with (record_of a.w.count a.w.faces b)) c.box_of.ensures
-    ∙ judged_made a.w a.vertices.now d.if-not-finite.false d.if-not-room.false
+    ∙ judged_made a.w a.vertices.now (ap not d.if-not-finite.false) (ap not d.if-not-room.false)

@@ -19,7 +19,7 @@ unfolding transform_of
 returns-then-not-is_accepted c =
     let a = c.args in
     let s = state a.mesh a.vertices.now a.triangles.now in
-    let m = a.op-count in
+    let m = a.op_count in
     let r = c.transform_refusal-refusal in
     let h : is_accepted r.result ≡ false = sym c.is_accepted.ensures ∙ c.if-not-is_accepted.true in
     let q = transform_refusal a.ops m a.degrees s in
@@ -31,7 +31,7 @@ unfolding transform_of
 returns-then-op_count-eq0 c =
     let a = c.args in
     let s = state a.mesh a.vertices.now a.triangles.now in
-    let m = a.op-count in
+    let m = a.op_count in
     let r = c.transform_refusal-refusal in
     let h : is_accepted r.result ≡ true = sym c.is_accepted.ensures ∙ c.if-not-is_accepted.false in
     let q = transform_refusal a.ops m a.degrees s in
@@ -46,8 +46,8 @@ move_mesh-after-requires c =
     let r = c.transform_refusal-refusal in
     let h : is_accepted r.result ≡ true = sym c.is_accepted.ensures ∙ c.if-not-is_accepted.false in
     record {
-      sound = transform_sound s a.ops a.op-count a.degrees r.result r.ensures h;
-      finite = λ u. (transform_finite s a.ops a.op-count a.degrees r.result r.ensures h).finite;
+      sound = transform_sound s a.ops a.op_count a.degrees r.result r.ensures h;
+      finite = λ u. (transform_finite s a.ops a.op_count a.degrees r.result r.ensures h).finite;
     }
 
 pub returns : goal.returns
@@ -55,7 +55,7 @@ unfolding transform_of transformed
 returns c =
     let a = c.args in
     let s = state a.mesh a.vertices.now a.triangles.now in
-    let m = a.op-count in
+    let m = a.op_count in
     let r = c.transform_refusal-refusal in
     let h : is_accepted r.result ≡ true = sym c.is_accepted.ensures
     ∙ c.if-not-is_accepted.false in

@@ -1,7 +1,6 @@
 -- `outline::corner` meets its contract. Assumes nothing.
 use Rattle.outline.specs.Corners.{point}
 use mathlib.Core.Path.{refl}
-use borrow.Author.Rules.{rules}
 use Rattle.outline.proofs.corner.Goals as goal
 
 pub returns : goal.returns

@@ -2,7 +2,6 @@
 use native.Mathlib.Omega.{arith}
 use lib.ListN.{length-set}
 use Rattle.outline.proofs.Laws.{put_wrote}
-use borrow.Author.Rules.{rules}
 use Rattle.outline.proofs.put_corner.Goals as goal
 
 pub bounds-out-at-2 : goal.bounds-out-at-2

@@ -1,10 +1,6 @@
 -- `outline_ears::blocked` meets its contract. Assumes nothing.
-use mathlib.Core.Path.{◌≡◌, sym, ◌∙◌}
+use mathlib.Core.Path.{sym, ◌∙◌}
 use native.Mathlib.Omega.{arith}
-use Prim.Native.Nat.{◌≤◌, ◌-◌}
-use lib.ListN.{take, drop}
-use Rattle.outline_triangle.specs.Triangle.{blocks}
-use Rattle.outline_ears.specs.Ears.{any, blocked}
 use Rattle.outline_ears.proofs.Laws.{any_here, any_on, any_none, blocked_is}
 use Rattle.outline_ears.proofs.blocked.Goals as goal
 

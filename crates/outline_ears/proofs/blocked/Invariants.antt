@@ -1,11 +1,9 @@
 -- `outline_ears::blocked` meets its contract. Assumes nothing.
-use mathlib.Core.Path.{◌≡◌, sym, ◌∙◌}
-use native.Mathlib.Omega.{arith}
+use mathlib.Core.Path.{◌≡◌}
 use Prim.Native.Nat.{◌≤◌, ◌-◌}
 use lib.ListN.{take, drop}
 use Rattle.outline_triangle.specs.Triangle.{blocks}
 use Rattle.outline_ears.specs.Ears.{any, blocked}
-use Rattle.outline_ears.proofs.Laws.{any_here, any_on, any_none, blocked_is}
 use Rattle.outline_ears.proofs.blocked.Given as goal
 
 abbrev pub invariant-loop-q : goal.invariant-loop-q

@@ -1,10 +1,8 @@
 -- `outline_ears::first_ear` meets its contract. Assumes nothing.
-use mathlib.Core.Path.{◌≡◌, sym, ◌∙◌}
-use native.Mathlib.Omega.{arith}
+use mathlib.Core.Path.{◌≡◌}
 use Prim.Native.Nat.{◌≤◌, ◌-◌}
 use lib.ListN.{take}
 use Rattle.outline_ears.specs.Ears.{is_ear, first_ear, counting, find}
-use Rattle.outline_ears.proofs.Laws.{find_here, find_on, find_end, first_ear_is}
 use Rattle.outline_ears.proofs.first_ear.Given as goal
 
 abbrev pub invariant-loop-k : goal.invariant-loop-k

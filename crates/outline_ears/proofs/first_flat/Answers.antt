@@ -1,9 +1,7 @@
 -- `outline_ears::first_flat` meets its contract. Assumes nothing.
-use mathlib.Core.Path.{◌≡◌, sym, ◌∙◌}
+use mathlib.Core.Path.{sym, ◌∙◌}
 use native.Mathlib.Omega.{arith}
-use Prim.Native.Nat.{◌≤◌, ◌-◌}
-use Rattle.outline_ears.specs.Ears.{counting, find}
-use Rattle.outline_ears.specs.Kinds.{is_flat_of, first_flat_of}
+use Rattle.outline_ears.specs.Kinds.{is_flat_of}
 use Rattle.outline_ears.proofs.Laws.{find_here, find_on, find_end, first_flat_of_is, flat_here, flat_not}
 use Rattle.outline_ears.proofs.first_flat.Goals as goal
 

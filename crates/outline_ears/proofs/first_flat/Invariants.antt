@@ -1,10 +1,8 @@
 -- `outline_ears::first_flat` meets its contract. Assumes nothing.
-use mathlib.Core.Path.{◌≡◌, sym, ◌∙◌}
-use native.Mathlib.Omega.{arith}
+use mathlib.Core.Path.{◌≡◌}
 use Prim.Native.Nat.{◌≤◌, ◌-◌}
 use Rattle.outline_ears.specs.Ears.{counting, find}
 use Rattle.outline_ears.specs.Kinds.{is_flat_of, first_flat_of}
-use Rattle.outline_ears.proofs.Laws.{find_here, find_on, find_end, first_flat_of_is, flat_here, flat_not}
 use Rattle.outline_ears.proofs.first_flat.Given as goal
 
 abbrev pub invariant-loop-j : goal.invariant-loop-j

@@ -1,6 +1,5 @@
 -- `outline_ears::is_ear` meets its contract. Assumes nothing.
 use Rattle.outline_ears.proofs.Laws.{is_ear_not, is_ear_is}
-use borrow.Author.Rules.{rules}
 use Rattle.outline_ears.proofs.is_ear.Goals as goal
 
 pub returns-then-kinds-k-ne-EAR : goal.returns-then-kinds-k-ne-EAR

@@ -1,7 +1,6 @@
 -- `outline_ears::next` meets its contract. Assumes nothing.
 use native.Mathlib.Omega.{arith}
 use Rattle.outline_ears.proofs.Laws.{next_of_last, next_of_earlier}
-use borrow.Author.Rules.{rules}
 use Rattle.outline_ears.proofs.next.Goals as goal
 
 pub returns-then-k-m : goal.returns-then-k-m

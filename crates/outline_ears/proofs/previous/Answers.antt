@@ -1,7 +1,6 @@
 -- `outline_ears::previous` meets its contract. Assumes nothing.
 use native.Mathlib.Omega.{arith}
 use Rattle.outline_ears.proofs.Laws.{previous_of_first, previous_of_later}
-use borrow.Author.Rules.{rules}
 use Rattle.outline_ears.proofs.previous.Goals as goal
 
 pub returns-then-k-eq0 : goal.returns-then-k-eq0

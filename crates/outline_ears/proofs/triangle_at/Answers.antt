@@ -1,6 +1,5 @@
 -- `outline_ears::triangle_at` meets its contract. Assumes nothing.
 use Rattle.outline_ears.proofs.Laws.{triangle_is}
-use borrow.Author.Rules.{rules}
 use Rattle.outline_ears.proofs.triangle_at.Goals as goal
 
 pub point_of-requires : goal.point_of-requires

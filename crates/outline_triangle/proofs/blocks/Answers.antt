@@ -1,7 +1,5 @@
 -- `outline_triangle::blocks` meets its contract. Assumes nothing.
-use borrow.Author.Tests.{not-true, not-false}
 use Rattle.outline_triangle.proofs.Laws.{in_triangle_at, same_at, blocks_outside, blocks_ip, blocks_ic, blocks_inx, blocks_a, blocks_b, blocks_c, blocks_all}
-use borrow.Author.Rules.{rules}
 use Rattle.outline_triangle.proofs.blocks.Goals as goal
 
 pub returns-then-not-in_triangle : goal.returns-then-not-in_triangle

@@ -1,6 +1,5 @@
 -- `outline_triangle::in_triangle` meets its contract. Assumes nothing.
 use Rattle.outline_triangle.proofs.Laws.{in_triangle_third, in_triangle_beyond}
-use borrow.Author.Rules.{rules}
 use Rattle.outline_triangle.proofs.in_triangle.Goals as goal
 
 pub returns-then-cross-eps : goal.returns-then-cross-eps

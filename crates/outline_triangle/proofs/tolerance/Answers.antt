@@ -1,8 +1,8 @@
 -- `outline_triangle::tolerance` meets its contract. Assumes nothing.
-use Prim.Native.Nat.{◌+◌, ◌≤◌, ◌-◌}
+use Prim.Native.Nat.{◌+◌}
 use mathlib.Core.Path.{◌≡◌, refl, sym, ap, ◌∙◌}
 use native.Mathlib.Omega.{arith}
-use lib.ListN.{length, drop}
+use lib.ListN.{drop}
 use lib.Ieee.{Float, binary64, of_bits, mul}
 use Rattle.ieee.specs.Number.{maximum}
 use Rattle.outline_triangle.specs.Triangle.{largest, scale, tolerance}

@@ -1,6 +1,5 @@
 -- `root::no_root` meets its contract. Assumes nothing.
 use mathlib.Core.Path.{◌≡◌, refl, ◌∙◌}
-use borrow.Author.Rules.{rules}
 use lib.Ieee.{nan, binary64, of_bits}
 use Rattle.root.proofs.no_root.Goals as goal
 

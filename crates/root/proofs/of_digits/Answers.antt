@@ -1,7 +1,6 @@
 -- `root::of_digits` meets its contract. Assumes nothing.
 use Prim.Native.Nat.{◌+◌, ◌*◌, ◌^◌}
 use native.Mathlib.Omega.{arith}
-use borrow.Author.Rules.{rules}
 use Rattle.root.proofs.Patterns.{write, not_nan_of_le}
 use Rattle.root.proofs.of_digits.Goals as goal
 

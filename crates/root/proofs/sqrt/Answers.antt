@@ -1,7 +1,6 @@
 -- `root::sqrt` meets its contract. Assumes nothing.
 use mathlib.Core.Bool.{true}
 use mathlib.Core.Path.{◌≡◌, sym, ◌∙◌, subst}
-use borrow.Author.Rules.{rules}
 use lib.Dec.{T}
 use lib.Ieee.{Float, binary64, fits}
 use Rattle.root.specs.ByCase.{ByCase}

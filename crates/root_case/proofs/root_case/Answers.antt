@@ -4,7 +4,6 @@ use Prim.Native.Nat.{ℕ, ◌%◌, ◌^◌, ◌<◌}
 use native.Mathlib.Omega.{arith}
 use lib.Dec.{lit<}
 use borrow.Author.Tests.{le-leb, lt-leb, eq-eqb, ne_eqb}
-use borrow.Author.Rules.{rules}
 use Rattle.root_case.proofs.Pattern.{field, by_tests}
 use Rattle.root_case.proofs.Signed.{sum_fits, quot_fits, even_exponent, odd_exponent}
 use Rattle.root_case.proofs.root_case.Goals as goal

@@ -1,5 +1,5 @@
 -- `root_whole::near_root` meets its contract. Assumes nothing.
-use Rattle.std.proofs.Common.{◌≡◌, ℕ, ◌≤◌, ◌<◌, ◌+◌, ◌*◌, ◌/◌, ◌%◌, ◌^◌, arith, rules}
+use Rattle.std.proofs.Common.{◌≡◌, ℕ, ◌≤◌, ◌<◌, ◌+◌, ◌*◌, ◌/◌, ◌%◌, ◌^◌, arith}
 use Rattle.root_whole.proofs.Bounds.{below_word}
 use Rattle.root_whole.proofs.Neighbours.{Split, exact, enough_digits, split, small, small_square, kept, raised, rounded}
 use Rattle.root_whole.proofs.near_root.Goals as goal

@@ -39,4 +39,4 @@ returns-in-RotPoly c =
     ∙ sym (ap (shape_within c.args.cyl) c.in-RotPoly.is)
 
 pub returns-in_default : goal.returns-in_default
-returns-in_default c = no_angle_shape _ _ c.in_default.is
+returns-in_default c = no_angle_shape _ _ c.in_default.in_default-own.keys7

@@ -8,7 +8,7 @@ pub returns-then-many : goal.returns-then-many
 returns-then-many c =
     let args = c.args in
     told_3
-    args.shape args.list.now args.own args.default args.options args.ops args.op-count args.degrees
+    args.shape args.list.now args.own args.default args.options args.ops args.op_count args.degrees
     c.too_many_segments-many.ensures
     c.if-many.true
 
@@ -16,7 +16,7 @@ pub returns-then-bad : goal.returns-then-bad
 returns-then-bad c =
     let args = c.args in
     told_4
-    args.shape args.list.now args.own args.default args.options args.ops args.op-count args.degrees
+    args.shape args.list.now args.own args.default args.options args.ops args.op_count args.degrees
     c.too_many_segments-many.ensures
     c.if-many.false
     c.bad_lists-bad.ensures
@@ -26,7 +26,7 @@ pub returns-then-numbers_bad : goal.returns-then-numbers_bad
 returns-then-numbers_bad c =
     let args = c.args in
     told_1
-    args.shape args.list.now args.own args.default args.options args.ops args.op-count args.degrees
+    args.shape args.list.now args.own args.default args.options args.ops args.op_count args.degrees
     c.too_many_segments-many.ensures
     c.if-many.false
     c.bad_lists-bad.ensures
@@ -37,10 +37,10 @@ returns-then-numbers_bad c =
 pub returns-then-angles_bad : goal.returns-then-angles_bad
 returns-then-angles_bad c =
     let args = c.args in
-    let two = angle_test args.shape args.list.now args.own args.default args.degrees (take args.op-count args.ops)
+    let two = angle_test args.shape args.list.now args.own args.default args.degrees (take args.op_count args.ops)
     c.shape_cs.ensures c.is_cylindrical-cyl.ensures c.angles_bad.ensures in
     told_2
-    args.shape args.list.now args.own args.default args.options args.ops args.op-count args.degrees
+    args.shape args.list.now args.own args.default args.options args.ops args.op_count args.degrees
     c.too_many_segments-many.ensures
     c.if-many.false
     c.bad_lists-bad.ensures
@@ -53,10 +53,10 @@ returns-then-angles_bad c =
 pub returns : goal.returns
 returns c =
     let args = c.args in
-    let two = angle_test args.shape args.list.now args.own args.default args.degrees (take args.op-count args.ops)
+    let two = angle_test args.shape args.list.now args.own args.default args.degrees (take args.op_count args.ops)
     c.shape_cs.ensures c.is_cylindrical-cyl.ensures c.angles_bad.ensures in
     told_none
-    args.shape args.list.now args.own args.default args.options args.ops args.op-count args.degrees
+    args.shape args.list.now args.own args.default args.options args.ops args.op_count args.degrees
     c.too_many_segments-many.ensures
     c.if-many.false
     c.bad_lists-bad.ensures

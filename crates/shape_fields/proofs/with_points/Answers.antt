@@ -44,4 +44,4 @@ returns-in-4 c =
 pub returns-in_default : goal.returns-in_default
 returns-in_default c =
     let n = c.args.n.now in
-    other_pointed n c.in_default.rest (λ i. CylindricalShell (c.first_point-p.ensures i) (c.second_point-q.ensures i) (number n 6) (number n 7))
+    other_pointed n c.in_default.in_default-own.rest (λ i. CylindricalShell (c.first_point-p.ensures i) (c.second_point-q.ensures i) (number n 6) (number n 7))

@@ -1,13 +1,10 @@
 -- `slice::all_below` meets its contract: ok and what is left to test decide as the whole does. Assumes nothing.
-use mathlib.Core.Path.{◌≡◌, refl, ap}
-use mathlib.Core.Bool.{Bool, ◌&&◌}
-use Prim.Native.Nat.{ℕ, ◌≤◌, ◌<◌, ◌-◌}
-use lib.ListN.{length, take, drop, get_or, length-take}
+use mathlib.Core.Path.{◌≡◌}
+use mathlib.Core.Bool.{◌&&◌}
+use Prim.Native.Nat.{◌≤◌, ◌-◌}
+use lib.ListN.{take, drop}
 use lib.Dec.{ltb}
 use Rattle.slice.specs.Every.{every}
-use Rattle.slice_law.specs.Next.{next_take}
-use Rattle.slice.specs.EveryLaws.{every_turn, every_done}
-use native.Mathlib.Omega.{arith}
 use Rattle.slice.proofs.all_below.Given as goal
 
 abbrev pub invariant-loop-i : goal.invariant-loop-i

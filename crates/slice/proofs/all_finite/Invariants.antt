@@ -1,14 +1,10 @@
 -- `slice::all_finite` meets its contract: ok and what is left to test decide as the whole does. Assumes nothing.
-use mathlib.Core.Path.{◌≡◌, refl}
+use mathlib.Core.Path.{◌≡◌}
 use mathlib.Core.Bool.{◌&&◌}
-use Prim.Native.Nat.{◌≤◌, ◌<◌, ◌-◌}
-use lib.ListN.{length, take, drop, get_or, length-take}
-use lib.Ieee.{nan}
+use Prim.Native.Nat.{◌≤◌, ◌-◌}
+use lib.ListN.{take, drop}
 use lib.Ieee.Scale.{finite}
 use Rattle.slice.specs.Every.{every}
-use Rattle.slice_law.specs.Next.{next_take}
-use Rattle.slice.specs.EveryLaws.{every_turn, every_done}
-use native.Mathlib.Omega.{arith}
 use Rattle.slice.proofs.all_finite.Given as goal
 
 abbrev pub invariant-loop-i : goal.invariant-loop-i

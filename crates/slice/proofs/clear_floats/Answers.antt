@@ -1,9 +1,8 @@
 -- `slice::clear_floats` meets its contract. Assumes nothing.
-use Prim.Native.Nat.{ℕ, ◌+◌, ◌-◌}
 use native.Mathlib.Omega.{arith}
-use lib.ListN.{length, length-set}
-use lib.Ieee.{Float, binary64, of_bits}
-use Rattle.slice.specs.ClearedLaws.{Clearing, clearing_none, clearing_more, clearing_done}
+use lib.ListN.{length-set}
+use lib.Ieee.{binary64, of_bits}
+use Rattle.slice.specs.ClearedLaws.{clearing_none, clearing_more, clearing_done}
 use Rattle.slice.proofs.clear_floats.Goals as goal
 
 pub loop-k-init : goal.loop-k-init

@@ -1,8 +1,7 @@
 -- `slice::clear_numbers` meets its contract. Assumes nothing.
-use Prim.Native.Nat.{ℕ, ◌+◌, ◌-◌}
 use native.Mathlib.Omega.{arith}
-use lib.ListN.{length, length-set}
-use Rattle.slice.specs.ClearedLaws.{Clearing, clearing_none, clearing_more, clearing_done}
+use lib.ListN.{length-set}
+use Rattle.slice.specs.ClearedLaws.{clearing_none, clearing_more, clearing_done}
 use Rattle.slice.proofs.clear_numbers.Goals as goal
 
 pub loop-i-init : goal.loop-i-init

@@ -1,8 +1,7 @@
 -- `slice::clear_numbers` meets its contract. Assumes nothing.
-use Prim.Native.Nat.{ℕ, ◌+◌, ◌-◌}
-use native.Mathlib.Omega.{arith}
-use lib.ListN.{length, length-set}
-use Rattle.slice.specs.ClearedLaws.{Clearing, clearing_none, clearing_more, clearing_done}
+use Prim.Native.Nat.{◌-◌}
+use lib.ListN.{length}
+use Rattle.slice.specs.ClearedLaws.{Clearing}
 use Rattle.slice.proofs.clear_numbers.Given as goal
 
 abbrev pub invariant-loop-i : goal.invariant-loop-i

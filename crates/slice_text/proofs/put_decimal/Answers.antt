@@ -11,5 +11,5 @@ pub returns : goal.returns
 returns c =
     let d = c.decimal-k in
     let s = c in
-    let few : d.result ≤ 20 = fewest_most 9 20 1 s.args.n d.result (omega arith) (omega arith) d.ensures.len.0 in
-    puts_same (d.ensures.len.1 ∙ fewest_is 20 d.result s.args.n few d.ensures.len.0) c.put.ensures
+    let few : d.result ≤ 20 = fewest_most 9 20 1 s.args.n d.result (omega arith) (omega arith) d.ensures.len in
+    puts_same (d.ensures.digits ∙ fewest_is 20 d.result s.args.n few d.ensures.len) c.put.ensures

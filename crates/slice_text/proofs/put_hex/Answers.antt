@@ -11,5 +11,5 @@ pub returns : goal.returns
 returns c =
     let d = c.hex-k in
     let s = c in
-    let few : d.result ≤ 16 = fewest_most 15 16 16 s.args.n d.result (omega arith) (omega arith) d.ensures.len.0 in
-    puts_same (d.ensures.len.1 ∙ sixteen d.result s.args.n (omega arith)) c.put.ensures
+    let few : d.result ≤ 16 = fewest_most 15 16 16 s.args.n d.result (omega arith) (omega arith) d.ensures.len in
+    puts_same (d.ensures.digits ∙ sixteen d.result s.args.n (omega arith)) c.put.ensures

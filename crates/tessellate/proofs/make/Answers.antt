@@ -16,7 +16,7 @@ pub returns-then-short : goal.returns-then-short
 returns-then-short c =
     let w = c in
     let a = w.args in
-    let j = job a.shape a.list.now a.own a.default a.options a.degrees a.ops a.op-count in
+    let j = job a.shape a.list.now a.own a.default a.options a.degrees a.ops a.op_count in
     let n = lent a.vertices.now a.triangles.now a.work.now in
     makes_is c.refused.ensures
     (makes_as (at_work j n (sym w.short_work-short.ensures ∙ c.if-short.true)) refl
@@ -28,7 +28,7 @@ returns-then-not-drawn c =
     let k = c.check_drawing-refusal in
     let w = c in
     let a = w.args in
-    let j = job a.shape a.list.now a.own a.default a.options a.degrees a.ops a.op-count in
+    let j = job a.shape a.list.now a.own a.default a.options a.degrees a.ops a.op_count in
     let n = lent a.vertices.now a.triangles.now a.work.now in
     let no : is_accepted k.result ≡ false = sym c.is_accepted-drawn.ensures ∙ c.if-not-drawn.true in
     makes_is c.refused-then-not-drawn.ensures

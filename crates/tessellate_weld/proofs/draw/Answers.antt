@@ -11,7 +11,7 @@ pub weld_all-made-requires : goal.weld_all-made-requires
 weld_all-made-requires c =
     let s = c in
     let a = s.args in
-    let j = job a.shape a.list.now a.own a.default a.options a.degrees a.ops a.op-count in
+    let j = job a.shape a.list.now a.own a.default a.options a.degrees a.ops a.op_count in
     (drawable j s.requires.drawing, s.requires.work)
 
 pub returns-then-not-is_accepted : goal.returns-then-not-is_accepted
@@ -19,7 +19,7 @@ returns-then-not-is_accepted c =
     let d = c in
     let s = d in
     let a = s.args in
-    let j = job a.shape a.list.now a.own a.default a.options a.degrees a.ops a.op-count in
+    let j = job a.shape a.list.now a.own a.default a.options a.degrees a.ops a.op_count in
     let n = lent a.vertices.now a.triangles.now a.work.now in
     let vs = d.weld_all-made.new.vertices in
     let ts = d.weld_all-made.new.triangles in
@@ -32,7 +32,7 @@ complete-requires c =
     let d = c in
     let s = d in
     let a = s.args in
-    let j = job a.shape a.list.now a.own a.default a.options a.degrees a.ops a.op-count in
+    let j = job a.shape a.list.now a.own a.default a.options a.degrees a.ops a.op_count in
     let n = lent a.vertices.now a.triangles.now a.work.now in
     let vs = d.weld_all-made.new.vertices in
     let ts = d.weld_all-made.new.triangles in
@@ -45,7 +45,7 @@ returns c =
     let d = c in
     let s = d in
     let a = s.args in
-    let j = job a.shape a.list.now a.own a.default a.options a.degrees a.ops a.op-count in
+    let j = job a.shape a.list.now a.own a.default a.options a.degrees a.ops a.op_count in
     let n = lent a.vertices.now a.triangles.now a.work.now in
     let vs = d.weld_all-made.new.vertices in
     let ts = d.weld_all-made.new.triangles in

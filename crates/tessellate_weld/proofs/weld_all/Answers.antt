@@ -23,7 +23,7 @@ pub weld_shape-w-requires : goal.weld_shape-w-requires
 weld_shape-w-requires c =
     let s = c in
     let a = s.args in
-     record { ready = c.begin-b.ensures.ready a.triangles.now; few_segments = (bounded a.shape a.list.now a.options s.requires.0, listed a.shape a.list.now a.options s.requires.0) }
+    record { ready = c.begin-b.ensures.ready a.triangles.now; few_segments = (bounded a.shape a.list.now a.options s.requires.0, listed a.shape a.list.now a.options s.requires.0) }
 
 -- shown of the welder before the welding too, so that must-fail/empty_mesh_for_each breaks what is returned and not this
 pub judge-requires : goal.judge-requires

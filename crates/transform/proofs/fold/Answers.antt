@@ -17,15 +17,15 @@ pub loop-i-preserved : goal.loop-i-preserved
 loop-i-preserved c =
     let args = c.args in
     let at = c.loop-i in
-    let long : length args.t1 ≡ 16 = search rules in
+    let long : length args.ops ≡ 16 = search rules in
     let inside : at.i ≤ 15 = omega arith in (
       omega arith,
-      folded_one_more args.t1 at.i _ (omega arith) args.degrees at.invariant.1 c.op_matrix.ensures c.product-acc.ensures,
+      folded_one_more args.ops at.i _ (omega arith) args.degrees at.invariant.1 c.op_matrix.ensures c.product-acc.ensures,
     )
 
 pub returns : goal.returns
 returns c =
     let args = c.args in
     let at = c.loop-i in
-    let long : length args.t1 ≡ 16 = search rules in
-    at.invariant.1 ∙ ap (folded args.degrees) (take_most args.t1 args.count at.i long (omega arith))
+    let long : length args.ops ≡ 16 = search rules in
+    at.invariant.1 ∙ ap (folded args.degrees) (take_most args.ops args.count at.i long (omega arith))

@@ -34,4 +34,4 @@ unfolding op_floats
 returns-in-7 c = of_kind op_floats 7 c.in-7.is refl
 
 pub returns-in_default : goal.returns-in_default
-returns-in_default c = other_floats c.in_default.rest
+returns-in_default c = other_floats c.in_default.in_default-own.rest

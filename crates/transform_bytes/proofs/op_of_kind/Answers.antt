@@ -40,7 +40,7 @@ unfolding op_floats
 vec_at-requires-in-7 c = omega (arith, kind_floats 7 3 c.in-7.is refl)
 
 pub matrix_at-requires : goal.matrix_at-requires
-matrix_at-requires c = omega (arith, other_floats c.in_default.rest)
+matrix_at-requires c = omega (arith, other_floats c.in_default.in_default-own.rest)
 
 pub returns-in-1 : goal.returns-in-1
 unfolding op_of_kind
@@ -87,4 +87,4 @@ returns-in-7 c =
 pub returns-in_default : goal.returns-in_default
 returns-in_default c =
     let s = c.args in
-    other_kind s.b.now s.n c.in_default.rest c.matrix_at.ensures
+    other_kind s.b.now s.n c.in_default.in_default-own.rest c.matrix_at.ensures

@@ -19,13 +19,13 @@ unfolding ops_finite
 loop-i-preserved c =
     let args = c.args in
     let at = c.loop-i in
-    let long : length args.t1 ≡ 16 = search rules in
+    let long : length args.ops ≡ 16 = search rules in
     let inside : at.i ≤ 15 = omega arith in
-    (omega arith, every_one_more args.t1 at.i _ (omega arith) op_finite at.invariant.1 c.op_finite-good.ensures)
+    (omega arith, every_one_more args.ops at.i _ (omega arith) op_finite at.invariant.1 c.op_finite-good.ensures)
 
 pub returns : goal.returns
 returns c =
     let args = c.args in
     let at = c.loop-i in
-    let long : length args.t1 ≡ 16 = search rules in
-    at.invariant.1 ∙ ap ops_finite (take_most args.t1 args.count at.i long (omega arith))
+    let long : length args.ops ≡ 16 = search rules in
+    at.invariant.1 ∙ ap ops_finite (take_most args.ops args.count at.i long (omega arith))

@@ -1,7 +1,6 @@
 -- `trig::from_reduced` meets its contract, by those of what it calls. Assumes nothing.
 use mathlib.Core.Path.{◌∙◌}
 use lib.Ieee.{binary64, mul}
-use borrow.Author.Rules.{rules}
 use Rattle.trig_spec.specs.Formula.{quadrant, from_reduced}
 use Rattle.trig.proofs.from_reduced.Goals as goal
 

@@ -1,5 +1,4 @@
 -- `trig::sin_cos` meets its contract, by those of what it calls and `answer`. Assumes nothing.
-use borrow.Author.Rules.{rules}
 use mathlib.Core.Path.{sym, ap, subst, ◌∙◌}
 use lib.Dec.{T}
 use lib.Ieee.{Float}

@@ -14,7 +14,7 @@ loop-i-init c = let x = c in (zero-le, refl, first_none x.args.soup.now _ x.requ
 pub weld_at-st-requires : goal.weld_at-st-requires
 weld_at-st-requires c =
     let l = c.loop-i in
-     record { ready = l.invariant.2.ready; i_in_bounds = omega (arith, c.loop-i-test.true, l.invariant.1) }
+    record { ready = l.invariant.2.ready; i_in_bounds = omega (arith, c.loop-i-test.true, l.invariant.1) }
 
 pub overflow_add-i : goal.overflow_add-i
 overflow_add-i c =

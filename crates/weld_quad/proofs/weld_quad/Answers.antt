@@ -46,13 +46,16 @@ weld_last-t-requires c =
     let f = c.if-not-finite.false in
     let r = c.if-room.true in
     let k = c.are_at.ensures.1 c.if-are_at.true in
-    let small = known_small s.args.w s.args.vertices.now s.args.work.now in  record { ready = s.requires; finite_value = (
+    let small = known_small s.args.w s.args.vertices.now s.args.work.now in record {
+      ready = s.requires;
+      finite_value = (
         f,
         r,
         small s.args.a s.args.na s.requires.linked f r k.0,
         small s.args.b s.args.nb s.requires.linked f r k.1,
         small s.args.d s.args.nd s.requires.linked f r k.2,
-      ) }
+      );
+    }
 
 pub returns-then-are_at : goal.returns-then-are_at
 returns-then-are_at c =

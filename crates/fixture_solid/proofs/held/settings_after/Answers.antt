@@ -67,4 +67,4 @@ returns-in-5 c =
 pub returns-in_default : goal.returns-in_default
 returns-in_default c =
     let s = c.args in
-    after_other s.s s.p.now c.in_default.rest c.settings-in_default.ensures
+    after_other s.s s.p.now c.in_default.in_default-own.rest c.settings-in_default.ensures

@@ -1,6 +1,5 @@
 -- `ieee::bits::bits_of` meets its contract: only a NaN differs from itself. Assumes nothing.
 use Rattle.ieee.specs.Nan.{nan_bits_lem, no_nan}
-use borrow.Author.Rules.{rules}
 use Rattle.ieee.proofs.bits.bits_of.Goals as goal
 
 pub float_to_bits-result : goal.float_to_bits-result

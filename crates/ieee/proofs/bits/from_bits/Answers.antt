@@ -1,7 +1,6 @@
 -- `ieee::bits::from_bits` meets its contract: a pattern above that of the infinity is a NaN. Assumes nothing.
 use mathlib.Core.Path.{◌∙◌}
 use Rattle.ieee.specs.Nan.{not_nan, nan_of, zero_over_zero}
-use borrow.Author.Rules.{rules}
 use Rattle.ieee.proofs.bits.from_bits.Goals as goal
 
 pub float_from_bits-result : goal.float_from_bits-result

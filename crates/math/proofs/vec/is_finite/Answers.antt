@@ -1,6 +1,5 @@
 -- `math::vec::is_finite` meets its contract. Assumes nothing.
 use mathlib.Core.Bool.{◌&&◌}
-use borrow.Author.Rules.{rules}
 use Rattle.math.specs.Vec.{v_finite}
 use Rattle.math.proofs.vec.is_finite.Goals as goal
 

@@ -1,5 +1,4 @@
 -- `math::vec::max` meets its contract. Assumes nothing.
-use borrow.Author.Rules.{rules}
 use Rattle.math.specs.Vec.{v_max}
 use Rattle.math.proofs.vec.max.Goals as goal
 

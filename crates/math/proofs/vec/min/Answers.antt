@@ -1,5 +1,4 @@
 -- `math::vec::min` meets its contract. Assumes nothing.
-use borrow.Author.Rules.{rules}
 use Rattle.math.specs.Vec.{v_min}
 use Rattle.math.proofs.vec.min.Goals as goal
 

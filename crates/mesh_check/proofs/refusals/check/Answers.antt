@@ -1,4 +1,5 @@
 -- `mesh_check::refusals::check` meets its contract: the checks in their order, and the box. Assumes nothing.
+use Rattle.std.proofs.Common.{ap, not}
 use mathlib.Core.Path.{◌≡◌, refl, sym, ◌∙◌}
 use mathlib.Core.Bool.{true, false}
 use Rattle.mesh_spec.specs.Measures.{bounding_box}
@@ -31,7 +32,7 @@ returns-then-not-finite c =
     let s = state a.mesh a.vertices.now a.triangles.now in
     let f = b.finite_box-found in
     let g : bad_mesh s ≡ false = sym b.bad_mesh.ensures ∙ b.if-bad_mesh.false in
-    let q = check_not_finite s g (found_not_finite s f.result f.ensures true c.if-not-finite.true) in
+    let q = check_not_finite s g (found_not_finite s f.result f.ensures true (ap not c.if-not-finite.true)) in
     c.boxed_with-then-not-finite.ensures ∙ refused_boxed NotFinite (check_of s) f.result.bounds (bounding_box (mesh_of s)) refl q
 
 pub returns-then-not-right : goal.returns-then-not-right
@@ -42,8 +43,8 @@ returns-then-not-right c =
     let s = state a.mesh a.vertices.now a.triangles.now in
     let f = b.finite_box-found in
     let g : bad_mesh s ≡ false = sym b.bad_mesh.ensures ∙ b.if-bad_mesh.false in
-    let h = found_not_finite s f.result f.ensures false c.if-not-finite.false in
-    let w = found_bad_box s f.result f.ensures d.same_box-right.result true d.same_box-right.ensures c.if-not-right.true in
+    let h = found_not_finite s f.result f.ensures false (ap not c.if-not-finite.false) in
+    let w = found_bad_box s f.result f.ensures d.same_box-right.result true d.same_box-right.ensures (ap not c.if-not-right.true) in
     c.boxed_with-then-not-right.ensures ∙ refused_boxed BadMesh (check_of s) f.result.bounds (bounding_box (mesh_of s)) refl (check_bad_box s g h w)
 
 pub returns : goal.returns
@@ -54,6 +55,6 @@ returns c =
     let s = state a.mesh a.vertices.now a.triangles.now in
     let f = b.finite_box-found in
     let g : bad_mesh s ≡ false = sym b.bad_mesh.ensures ∙ b.if-bad_mesh.false in
-    let h = found_not_finite s f.result f.ensures false c.if-not-finite.false in
-    let w = found_bad_box s f.result f.ensures d.same_box-right.result false d.same_box-right.ensures c.if-not-right.false in
+    let h = found_not_finite s f.result f.ensures false (ap not c.if-not-finite.false) in
+    let w = found_bad_box s f.result f.ensures d.same_box-right.result false d.same_box-right.ensures (ap not c.if-not-right.false) in
     c.boxed_with-2.ensures ∙ (λ j. boxed_with (check_accepted s g h w j) (found_bounds s f.result f.ensures j))

@@ -8,11 +8,11 @@ use Rattle.mesh_move_affine.proofs.bounds.rows_within.Goals as goal
 
 pub all_bounded-requires : goal.all_bounded-requires
 all_bounded-requires c =
-    let e : 16 ≡ length c.args.a.m = slice-aggregate-all-bounded c in
+    let e : 16 ≡ length c.args.a.m = search rules in
     omega arith
 
 pub returns : goal.returns
 returns c =
     let a = c.args.a in
-    let e : 16 ≡ length a.m = slice-aggregate-all-bounded c in
+    let e : 16 ≡ length a.m = search rules in
     rows_within a c.all_bounded.result (omega arith) c.all_bounded.ensures

@@ -17,7 +17,7 @@ all_kinds-requires c = (c.requires.1, refl)
 pub loop-left-init : goal.loop-left-init
 loop-left-init c =
     let d = c in
-    let w = d.args.t3 in
+    let w = d.args.left in
     record {
       inside = d.requires.1;
       kept = c.all_kinds.ensures;

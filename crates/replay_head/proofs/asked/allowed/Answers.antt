@@ -31,6 +31,6 @@ returns-in-8 c = of_kind (λ (k : ℕ). allowed_of_call k c.args.h) 8 c.in-8.is 
 pub returns-in_default : goal.returns-in_default
 unfolding allowed_of_call
 returns-in_default c =
-    let n = c.in_default.rest in
+    let n = c.in_default.in_default-own.rest in
     let k = c.args.h.what in
     simp (ne_eqb k 1 n.0.0.1, ne_eqb k 2 n.0.1, ne_eqb k 8 n.1)

@@ -1,5 +1,5 @@
 -- `root_whole::digits::root_by_digits` meets its contract. Assumes nothing.
-use Rattle.std.proofs.Common.{◌≡◌, ℕ, zero, suc, ◌+◌, ◌-◌, ◌*◌, ◌/◌, ◌^◌, ◌<◌, ◌≤◌, sym, refl, ap, ◌∙◌, ⊎_elim, lt_of_not-le, add-one, arith}
+use Rattle.std.proofs.Common.{◌≡◌, ℕ, zero, suc, ◌+◌, ◌-◌, ◌*◌, ◌/◌, ◌^◌, ◌<◌, ◌≤◌, sym, refl, ap, ◌∙◌, lt_of_not-le, add-one, arith}
 use native.Mathlib.Nat.{pow-succ'}
 use Rattle.root_whole.proofs.Roots.{IsRoot, near_up, near_down, root_ge}
 use Rattle.root_whole.proofs.Turns.{Inv}
@@ -101,8 +101,8 @@ pub loop-n-preserved : goal.loop-n-preserved
 loop-n-preserved c =
     let l = c.loop-n in
     elim c.if-t-rest.branch [
-      then-t-rest w ↦ turn_up c.args.m l.n l.b l.q l.rest _ _ l.invariant (omega arith) w.if-t-rest.true w.q-is w.rest-is
-    | else-t-rest w ↦ turn_down c.args.m l.n l.b l.q l.rest _ _ l.invariant (omega arith) w.if-t-rest.false w.q-is w.rest-is
+      | then-t-rest w ↦ turn_up c.args.m l.n l.b l.q l.rest _ _ l.invariant (omega arith) w.if-t-rest.true w.q-is w.rest-is
+      | else-t-rest w ↦ turn_down c.args.m l.n l.b l.q l.rest _ _ l.invariant (omega arith) w.if-t-rest.false w.q-is w.rest-is
     ]
 
 pub overflow_mul-q : goal.overflow_mul-q

@@ -1,5 +1,4 @@
 -- `root_whole::digits::root_by_digits` meets its contract. Assumes nothing.
-use Rattle.std.proofs.Common.{◌≡◌, ℕ, zero, suc, ◌+◌, ◌-◌, ◌*◌, ◌/◌, ◌^◌, ◌<◌, ◌≤◌, sym, refl, ap, ◌∙◌, ⊎_elim, lt_of_not-le, add-one, arith}
 use Rattle.root_whole.proofs.Turns.{Inv}
 use Rattle.root_whole.proofs.digits.root_by_digits.Given as goal
 

@@ -1,4 +1,5 @@
 -- `shape::rotated::is_rot_poly` meets its contract. Assumes nothing.
+use borrow.Enum.Refused.{opened}
 use borrow.Author.Rules.{rules}
 use mathlib.Core.Path.{sym, ap}
 use Rattle.shape.specs.Rotated.{is_rot_poly}
@@ -10,4 +11,4 @@ unfolding is_rot_poly
 returns-in-RotPoly c = sym (ap is_rot_poly c.in-RotPoly.is)
 
 pub returns-in_default : goal.returns-in_default
-returns-in_default c = not_rotated _ c.in_default.is
+returns-in_default c = not_rotated _ (opened c.in_default.in_default-own.keys2)

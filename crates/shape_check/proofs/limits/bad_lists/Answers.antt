@@ -14,5 +14,5 @@ pub returns : goal.returns
 returns c =
     let args = c.args in
     ap (λ (t : Bool). c.bad_list.result || t) c.too_many_ops.ensures
-    ∙ ap (λ (t : Bool). t || too_many_ops args.op-count)
+    ∙ ap (λ (t : Bool). t || too_many_ops args.op_count)
     (c.bad_list.ensures ∙ ap (λ (k : Items). bad_list k args.n) c.items_of.ensures)

@@ -56,4 +56,4 @@ pub returns-in-RotPoly : goal.returns-in-RotPoly
 returns-in-RotPoly c = outline_as _ _ _ _ _ _ c.in-RotPoly.is c.weld_rot_poly.ensures
 
 pub returns-in_default : goal.returns-in_default
-returns-in_default c = outline_none c.args.shape _ _ _ c.requires.ready c.in_default.is
+returns-in_default c = outline_none c.args.shape _ _ _ c.requires.ready c.in_default.in_default-own.keys4

@@ -4,7 +4,9 @@ use Rattle.solid.proofs.ShapeRuns.{rot_runs, rot_same, rot_axis, rot_normal}
 use Rattle.solid.proofs.outlines.weld_rot_poly.Goals as goal
 
 pub weld_rotated-requires : goal.weld_rotated-requires
-weld_rotated-requires c = record { ready = c.requires.ready; segments_bound = (
+weld_rotated-requires c = record {
+  ready = c.requires.ready;
+  segments_bound = (
     c.requires.segments_bound.0,
     c.requires.segments_bound.1,
     omega (
@@ -13,7 +15,8 @@ weld_rotated-requires c = record { ready = c.requires.ready; segments_bound = (
       c.if-axis-lt3.true,
       c.if-normal-lt3.true,
     ),
-  ) }
+  );
+}
 
 pub shape_of-vertices-then-normal-axis : goal.shape_of-vertices-then-normal-axis
 shape_of-vertices-then-normal-axis c = c.weld_rotated.ensures.vlong

@@ -64,7 +64,7 @@ pub shape_of-work-in-Polygon : goal.shape_of-work-in-Polygon
 shape_of-work-in-Polygon c = c.weld_outline.ensures.wlong
 
 pub returns-in-Polygon : goal.returns-in-Polygon
-returns-in-Polygon c = outline_part c.args.shape _ _ c.args.options _ _ _ _ _ _ c.in-Polygon.is c.weld_outline.ensures c.new_part.ensures
+returns-in-Polygon c = outline_part c.args.shape _ _ c.args.options _ _ _ _ _ _ c.in-Polygon.in-Polygon-own.keys3 c.weld_outline.ensures c.new_part.ensures
 
 pub shape_of-vertices-in-Cylinder : goal.shape_of-vertices-in-Cylinder
 shape_of-vertices-in-Cylinder c = c.weld_tube.ensures.vlong
@@ -76,7 +76,7 @@ pub shape_of-work-in-Cylinder : goal.shape_of-work-in-Cylinder
 shape_of-work-in-Cylinder c = c.weld_tube.ensures.wlong
 
 pub returns-in-Cylinder : goal.returns-in-Cylinder
-returns-in-Cylinder c = tube_part c.args.shape _ _ c.args.options _ _ _ _ _ _ c.in-Cylinder.is c.weld_tube.ensures c.new_part-in-Cylinder.ensures
+returns-in-Cylinder c = tube_part c.args.shape _ _ c.args.options _ _ _ _ _ _ c.in-Cylinder.in-Cylinder-own.keys4 c.weld_tube.ensures c.new_part-in-Cylinder.ensures
 
 pub shape_of-vertices-in_default : goal.shape_of-vertices-in_default
 shape_of-vertices-in_default c = c.weld_solid.ensures.vlong
@@ -88,4 +88,4 @@ pub shape_of-work-in_default : goal.shape_of-work-in_default
 shape_of-work-in_default c = c.weld_solid.ensures.wlong
 
 pub returns-in_default : goal.returns-in_default
-returns-in_default c = solid_part c.args.shape _ _ c.args.options _ _ _ _ _ _ c.in_default.is c.weld_solid.ensures c.new_part-in_default.ensures
+returns-in_default c = solid_part c.args.shape _ _ c.args.options _ _ _ _ _ _ c.in_default.in_default-own.keys5 c.weld_solid.ensures c.new_part-in_default.ensures

@@ -52,4 +52,4 @@ pub returns-in-SphericalShell : goal.returns-in-SphericalShell
 returns-in-SphericalShell c = solid_as _ _ _ _ _ _ c.in-SphericalShell.is c.weld_spherical_shell.ensures
 
 pub returns-in_default : goal.returns-in_default
-returns-in_default c = solid_none c.args.shape _ _ _ c.requires.ready c.in_default.is
+returns-in_default c = solid_none c.args.shape _ _ _ c.requires.ready c.in_default.in_default-own.keys4

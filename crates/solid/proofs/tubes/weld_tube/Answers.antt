@@ -38,4 +38,4 @@ unfolding cylindrical_shell_soup
 returns-in-CylindricalShell c = tube_as _ _ _ _ _ _ c.in-CylindricalShell.is c.weld_between-in-CylindricalShell.ensures
 
 pub returns-in_default : goal.returns-in_default
-returns-in_default c = tube_none c.args.shape _ _ _ c.requires.ready c.in_default.is
+returns-in_default c = tube_none c.args.shape _ _ _ c.requires.ready c.in_default.in_default-own.keys3

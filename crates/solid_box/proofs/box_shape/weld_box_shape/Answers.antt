@@ -23,7 +23,7 @@ returns-then-not-cylindrical c = shape_straight _ _ _ _ _ _ _ _ c.min-lo.ensures
 pub weld_param_box-requires : goal.weld_param_box-requires
 weld_param_box-requires c =
     let p = c.requires in
-     record { ready = p.0; n_bound = arc_few _ _ _ c.arc_segments-n.ensures p.1 }
+    record { ready = p.ready; n_bound = arc_few _ _ _ c.arc_segments-n.ensures p.segments_bound }
 
 pub shape_of-vertices : goal.shape_of-vertices
 shape_of-vertices c = c.weld_param_box.ensures.vlong

@@ -1,4 +1,5 @@
 -- `solid_box::flat::weld_face` meets its contract. Assumes nothing.
+use Rattle.std.proofs.Common.{ap, not}
 use Rattle.solid_box.proofs.FaceRuns.{face_gone, face_there}
 use Rattle.solid_box.proofs.FlatRuns.{base_small}
 use native.Mathlib.Omega.{arith}
@@ -7,7 +8,7 @@ use borrow.Author.Rules.{rules}
 use Rattle.solid_box.proofs.flat.weld_face.Goals as goal
 
 pub returns-then-not-has_face : goal.returns-then-not-has_face
-returns-then-not-has_face c = face_gone _ _ _ _ _ _ _ _ c.requires.ready c.if-not-has_face.true c.has_face.ensures
+returns-then-not-has_face c = face_gone _ _ _ _ _ _ _ _ c.requires.ready (ap not c.if-not-has_face.true) c.has_face.ensures
 
 pub face-p-requires : goal.face-p-requires
 face-p-requires c = omega (arith, c.requires.f_bound)
@@ -30,4 +31,4 @@ pub shape_of-work : goal.shape_of-work
 shape_of-work c = c.weld_quad-q.ensures.runs.wlong
 
 pub returns : goal.returns
-returns c = face_there _ _ _ _ _ _ _ _ _ c.if-not-has_face.false c.has_face.ensures (runs_as c.face-p.ensures c.weld_quad-q.ensures.runs)
+returns c = face_there _ _ _ _ _ _ _ _ _ (ap not c.if-not-has_face.false) c.has_face.ensures (runs_as c.face-p.ensures c.weld_quad-q.ensures.runs)

@@ -7,7 +7,7 @@ pub weld_tabled-requires : goal.weld_tabled-requires
 weld_tabled-requires c =
     let p = c.requires in
     let few = c.if-n-le64.true in
-     record { ready = p.0; n_bound = (p.1, omega (arith, few), omega arith, omega (arith, few)) }
+    record { ready = p.ready; n_bound = (p.n_bound, omega (arith, few), omega arith, omega (arith, few)) }
 
 pub shape_of-vertices-then-n-le64 : goal.shape_of-vertices-then-n-le64
 shape_of-vertices-then-n-le64 c = c.weld_tabled.ensures.vlong
@@ -24,7 +24,7 @@ returns-then-n-le64 c = c.weld_tabled.ensures
 pub weld_tabled-requires-2 : goal.weld_tabled-requires-2
 weld_tabled-requires-2 c =
     let p = c.requires in
-     record { ready = p.0; n_bound = (p.1, omega (arith, p.1), omega arith, omega (arith, p.1)) }
+    record { ready = p.ready; n_bound = (p.n_bound, omega (arith, p.n_bound), omega arith, omega (arith, p.n_bound)) }
 
 pub shape_of-vertices : goal.shape_of-vertices
 shape_of-vertices c = c.weld_tabled-2.ensures.vlong

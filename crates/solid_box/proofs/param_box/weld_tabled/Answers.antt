@@ -10,16 +10,19 @@ pub fill_entries-requires : goal.fill_entries-requires
 fill_entries-requires c =
     let n = ap (λ (l : Line). l.n) c.line_of-l.ensures in
     let p = c.requires.n_bound in
-     record { turns_within = (omega (arith, n, p.0), omega (arith, n)); n_in_bounds = p.1 }
+    record { turns_within = (omega (arith, n, p.ready), omega (arith, n)); n_in_bounds = p.n_bound }
 
 pub weld_faces-requires : goal.weld_faces-requires
 weld_faces-requires c =
-    let p = c.requires in  record { ready = p.0; box_within = record {
-        few = p.1.0;
+    let p = c.requires in record {
+      ready = p.ready;
+      box_within = record {
+        few = p.n_bound.0;
         tabled = line_tabled _ _ _ _ c.line_of-l.ensures c.fill_entries.ensures;
-        one = p.1.2;
-        long = p.1.3;
-      } }
+        one = p.n_bound.2;
+        long = p.n_bound.3;
+      };
+    }
 
 pub shape_of-vertices : goal.shape_of-vertices
 shape_of-vertices c = c.weld_faces.ensures.vlong

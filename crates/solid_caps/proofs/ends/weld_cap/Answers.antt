@@ -6,25 +6,25 @@ use Rattle.solid_caps.proofs.CapRuns.{cap_one, cap_two}
 use Rattle.solid_caps.proofs.ends.weld_cap.Goals as goal
 
 pub surface_point-an-requires : goal.surface_point-an-requires
-surface_point-an-requires c = c.requires.caps_within.0 c.args.a
+surface_point-an-requires c = let w = c.requires.caps_within.0 c.args.a in record { within = w.0; tabled = w.1 }
 
 pub surface_point-bn-requires : goal.surface_point-bn-requires
-surface_point-bn-requires c = c.requires.caps_within.0 c.args.b
+surface_point-bn-requires c = let w = c.requires.caps_within.0 c.args.b in record { within = w.0; tabled = w.1 }
 
 pub surface_point-cn-requires : goal.surface_point-cn-requires
-surface_point-cn-requires c = c.requires.caps_within.0 c.args.c
+surface_point-cn-requires c = let w = c.requires.caps_within.0 c.args.c in record { within = w.0; tabled = w.1 }
 
 pub weld_triangle-u-requires : goal.weld_triangle-u-requires
 weld_triangle-u-requires c = c.requires.ready
 
 pub surface_point-af-requires : goal.surface_point-af-requires
-surface_point-af-requires c = c.requires.caps_within.1 c.args.a
+surface_point-af-requires c = let w = c.requires.caps_within.1 c.args.a in record { within = w.0; tabled = w.1 }
 
 pub surface_point-cf-requires : goal.surface_point-cf-requires
-surface_point-cf-requires c = c.requires.caps_within.1 c.args.c
+surface_point-cf-requires c = let w = c.requires.caps_within.1 c.args.c in record { within = w.0; tabled = w.1 }
 
 pub surface_point-bf-requires : goal.surface_point-bf-requires
-surface_point-bf-requires c = c.requires.caps_within.1 c.args.b
+surface_point-bf-requires c = let w = c.requires.caps_within.1 c.args.b in record { within = w.0; tabled = w.1 }
 
 pub weld_triangle-requires : goal.weld_triangle-requires
 weld_triangle-requires c = c.weld_triangle-u.ensures.ready

@@ -15,11 +15,11 @@ use Rattle.solid_grid.proofs.grid.weld_column.Goals as goal
 
 pub surface_point-a-requires : goal.surface_point-a-requires
 surface_point-a-requires c =
-    let x = c in  record { within = within_less x.args.corners.now x.args.s x.args.nu 1 (0) 0 zero-le zero-le x.requires.nu_bound.1; tabled = tabled_less x.args.s x.args.rows.now x.args.cols.now x.args.nu 1 (0) 0 zero-le zero-le x.requires.nu_bound.2 }
+    let x = c in record { within = within_less x.args.corners.now x.args.s x.args.nu 1 (0) 0 zero-le zero-le x.requires.nu_bound.1; tabled = tabled_less x.args.s x.args.rows.now x.args.cols.now x.args.nu 1 (0) 0 zero-le zero-le x.requires.nu_bound.2 }
 
 pub surface_point-d-requires : goal.surface_point-d-requires
 surface_point-d-requires c =
-    let x = c in  record { within = within_less x.args.corners.now x.args.s x.args.nu 1 (0) 1 zero-le (omega arith) x.requires.nu_bound.1; tabled = tabled_less x.args.s x.args.rows.now x.args.cols.now x.args.nu 1 (0) 1 zero-le (omega arith) x.requires.nu_bound.2 }
+    let x = c in record { within = within_less x.args.corners.now x.args.s x.args.nu 1 (0) 1 zero-le (omega arith) x.requires.nu_bound.1; tabled = tabled_less x.args.s x.args.rows.now x.args.cols.now x.args.nu 1 (0) 1 zero-le (omega arith) x.requires.nu_bound.2 }
 
 pub loop-i-init : goal.loop-i-init
 loop-i-init c =
@@ -31,17 +31,17 @@ overflow_add-i c = omega (arith, c.loop-i-test.true, c.requires.nu_bound.0)
 
 pub surface_point-b-requires : goal.surface_point-b-requires
 surface_point-b-requires c =
-    let x = c in  record { within = within_less x.args.corners.now x.args.s x.args.nu 1 (c.loop-i.i + 1) 0 (omega (arith, c.loop-i-test.true)) zero-le x.requires.nu_bound.1; tabled = tabled_less x.args.s x.args.rows.now x.args.cols.now x.args.nu 1 (c.loop-i.i + 1) 0 (omega (arith, c.loop-i-test.true)) zero-le x.requires.nu_bound.2 }
+    let x = c in record { within = within_less x.args.corners.now x.args.s x.args.nu 1 (c.loop-i.i + 1) 0 (omega (arith, c.loop-i-test.true)) zero-le x.requires.nu_bound.1; tabled = tabled_less x.args.s x.args.rows.now x.args.cols.now x.args.nu 1 (c.loop-i.i + 1) 0 (omega (arith, c.loop-i-test.true)) zero-le x.requires.nu_bound.2 }
 
 pub overflow_add-i-in-loop-i : goal.overflow_add-i-in-loop-i
 overflow_add-i-in-loop-i c = omega (arith, c.loop-i-test.true, c.requires.nu_bound.0)
 
 pub surface_point-c-requires : goal.surface_point-c-requires
 surface_point-c-requires c =
-    let x = c in  record { within = within_less x.args.corners.now x.args.s x.args.nu 1 (c.loop-i.i + 1) 1 (omega (arith, c.loop-i-test.true)) (omega arith) x.requires.nu_bound.1; tabled = tabled_less x.args.s x.args.rows.now x.args.cols.now x.args.nu 1 (c.loop-i.i + 1) 1 (omega (arith, c.loop-i-test.true)) (omega arith) x.requires.nu_bound.2 }
+    let x = c in record { within = within_less x.args.corners.now x.args.s x.args.nu 1 (c.loop-i.i + 1) 1 (omega (arith, c.loop-i-test.true)) (omega arith) x.requires.nu_bound.1; tabled = tabled_less x.args.s x.args.rows.now x.args.cols.now x.args.nu 1 (c.loop-i.i + 1) 1 (omega (arith, c.loop-i-test.true)) (omega arith) x.requires.nu_bound.2 }
 
 pub weld_in_column-q-requires : goal.weld_in_column-q-requires
-weld_in_column-q-requires c = let l = c.loop-i in  record { ready = l.invariant.1.ready; known = (λ e. l.invariant.4 (ltb-true 0 l.i e)) }
+weld_in_column-q-requires c = let l = c.loop-i in record { ready = l.invariant.1.ready; known = (λ e. l.invariant.4 (ltb-true 0 l.i e)) }
 
 pub overflow_add-i-in-loop-i-2 : goal.overflow_add-i-in-loop-i-2
 overflow_add-i-in-loop-i-2 c = omega (arith, c.loop-i-test.true, c.requires.nu_bound.0)

@@ -21,14 +21,14 @@ fits_index n h = omega arith
 
 pub surface_point-a-requires : goal.surface_point-a-requires
 surface_point-a-requires c =
-    let x = c in  record { within = within_less x.args.corners.now x.args.s (x.args.i + 1) x.args.nv x.args.i (0) (omega arith) (omega arith) x.requires.i_bound.3; tabled = tabled_less x.args.s x.args.rows.now x.args.cols.now (x.args.i + 1) x.args.nv x.args.i (0) (omega arith) (omega arith) x.requires.i_bound.4 }
+    let x = c in record { within = within_less x.args.corners.now x.args.s (x.args.i + 1) x.args.nv x.args.i (0) (omega arith) (omega arith) x.requires.i_bound.3; tabled = tabled_less x.args.s x.args.rows.now x.args.cols.now (x.args.i + 1) x.args.nv x.args.i (0) (omega arith) (omega arith) x.requires.i_bound.4 }
 
 pub overflow_add-i : goal.overflow_add-i
 overflow_add-i c = omega (arith, c.requires.i_bound.0)
 
 pub surface_point-first-requires : goal.surface_point-first-requires
 surface_point-first-requires c =
-    let x = c in  record { within = within_less x.args.corners.now x.args.s (x.args.i + 1) x.args.nv (x.args.i + 1) (0) (omega arith) (omega arith) x.requires.i_bound.3; tabled = tabled_less x.args.s x.args.rows.now x.args.cols.now (x.args.i + 1) x.args.nv (x.args.i + 1) (0) (omega arith) (omega arith) x.requires.i_bound.4 }
+    let x = c in record { within = within_less x.args.corners.now x.args.s (x.args.i + 1) x.args.nv (x.args.i + 1) (0) (omega arith) (omega arith) x.requires.i_bound.3; tabled = tabled_less x.args.s x.args.rows.now x.args.cols.now (x.args.i + 1) x.args.nv (x.args.i + 1) (0) (omega arith) (omega arith) x.requires.i_bound.4 }
 
 pub bounds-numbers-0 : goal.bounds-numbers-0
 bounds-numbers-0 c = omega (arith, c.requires.i_bound.2)
@@ -43,7 +43,7 @@ overflow_add-j c = omega (arith, c.loop-j-test.true, c.requires.i_bound.1)
 
 pub surface_point-d-requires : goal.surface_point-d-requires
 surface_point-d-requires c =
-    let x = c in  record { within = within_less x.args.corners.now x.args.s (x.args.i + 1) x.args.nv x.args.i (c.loop-j.j + 1) (omega arith) (omega (arith, c.loop-j-test.true)) x.requires.i_bound.3; tabled = tabled_less x.args.s x.args.rows.now x.args.cols.now (x.args.i + 1) x.args.nv x.args.i (c.loop-j.j + 1) (omega arith) (omega (arith, c.loop-j-test.true)) x.requires.i_bound.4 }
+    let x = c in record { within = within_less x.args.corners.now x.args.s (x.args.i + 1) x.args.nv x.args.i (c.loop-j.j + 1) (omega arith) (omega (arith, c.loop-j-test.true)) x.requires.i_bound.3; tabled = tabled_less x.args.s x.args.rows.now x.args.cols.now (x.args.i + 1) x.args.nv x.args.i (c.loop-j.j + 1) (omega arith) (omega (arith, c.loop-j-test.true)) x.requires.i_bound.4 }
 
 pub overflow_add-i-in-loop-j : goal.overflow_add-i-in-loop-j
 overflow_add-i-in-loop-j c = omega (arith, c.requires.i_bound.0)
@@ -53,7 +53,7 @@ overflow_add-j-in-loop-j c = omega (arith, c.loop-j-test.true, c.requires.i_boun
 
 pub surface_point-c-requires : goal.surface_point-c-requires
 surface_point-c-requires c =
-    let x = c in  record { within = within_less x.args.corners.now x.args.s (x.args.i + 1) x.args.nv (x.args.i + 1) (c.loop-j.j + 1) (omega arith) (omega (arith, c.loop-j-test.true)) x.requires.i_bound.3; tabled = tabled_less x.args.s x.args.rows.now x.args.cols.now (x.args.i + 1) x.args.nv (x.args.i + 1) (c.loop-j.j + 1) (omega arith) (omega (arith, c.loop-j-test.true)) x.requires.i_bound.4 }
+    let x = c in record { within = within_less x.args.corners.now x.args.s (x.args.i + 1) x.args.nv (x.args.i + 1) (c.loop-j.j + 1) (omega arith) (omega (arith, c.loop-j-test.true)) x.requires.i_bound.3; tabled = tabled_less x.args.s x.args.rows.now x.args.cols.now (x.args.i + 1) x.args.nv (x.args.i + 1) (c.loop-j.j + 1) (omega arith) (omega (arith, c.loop-j-test.true)) x.requires.i_bound.4 }
 
 pub overflow_add-j-in-loop-j-2 : goal.overflow_add-j-in-loop-j-2
 overflow_add-j-in-loop-j-2 c = omega (arith, c.loop-j-test.true, c.requires.i_bound.1)
@@ -68,7 +68,7 @@ pub bounds-numbers-0-in-loop-j : goal.bounds-numbers-0-in-loop-j
 bounds-numbers-0-in-loop-j c = omega (arith, c.loop-j.invariant.4, c.requires.i_bound.2)
 
 pub weld_in_row-q-requires : goal.weld_in_row-q-requires
-weld_in_row-q-requires c = let l = c.loop-j in  record { ready = l.invariant.1.ready; known = (λ e. l.invariant.5 (ltb-true 0 l.j e)) }
+weld_in_row-q-requires c = let l = c.loop-j in record { ready = l.invariant.1.ready; known = (λ e. l.invariant.5 (ltb-true 0 l.j e)) }
 
 pub offset_bounds-numbers-j-in-loop-j : goal.offset_bounds-numbers-j-in-loop-j
 offset_bounds-numbers-j-in-loop-j c = fits_index _ (omega (arith, c.loop-j-test.true, c.requires.i_bound.1))

@@ -18,13 +18,16 @@ pub weld_row-st-requires : goal.weld_row-st-requires
 weld_row-st-requires c =
     let x = c in
     let l = c.loop-i in
-    let t = c.loop-i-test.true in  record { ready = l.invariant.1.ready; i_bound = (
+    let t = c.loop-i-test.true in record {
+      ready = l.invariant.1.ready;
+      i_bound = (
         omega (arith, t, x.requires.nu_bound.0),
         x.requires.nu_bound.1,
         omega (arith, l.invariant.2, x.requires.nu_bound.2),
         within_less x.args.corners.now x.args.s x.args.nu x.args.nv (l.i + 1) x.args.nv (omega (arith, t)) (omega arith) x.requires.nu_bound.3,
         tabled_less x.args.s x.args.rows.now x.args.cols.now x.args.nu x.args.nv (l.i + 1) x.args.nv (omega (arith, t)) (omega arith) x.requires.nu_bound.4,
-      ) }
+      );
+    }
 
 pub overflow_add-i : goal.overflow_add-i
 overflow_add-i c = omega (

@@ -22,10 +22,13 @@ slice_bounds-weld_extruded_from-end-2 c =
 pub weld_extruded_from-requires : goal.weld_extruded_from-requires
 weld_extruded_from-requires c =
     let o = c.ccw_polygon-len in
-    let d = c in  record { ready = d.requires.ready; n_bound = (
+    let d = c in record {
+      ready = d.requires.ready;
+      n_bound = (
         d.requires.n_bound.0,
         omega (arith, ccw_few _ _ o.ensures.count d.requires.n_bound.1, length-take-le (2 * o.result) o.new.out (holds_within o.ensures)),
-      ) }
+      );
+    }
 
 pub shape_of-vertices : goal.shape_of-vertices
 shape_of-vertices c = c.weld_extruded_from.ensures.vlong

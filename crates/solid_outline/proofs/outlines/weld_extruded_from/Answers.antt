@@ -9,7 +9,7 @@ pub returns-then-len-lt3 : goal.returns-then-len-lt3
 returns-then-len-lt3 c = extruded_none _ _ _ _ _ _ c.requires.ready c.if-len-lt3.true
 
 pub weld_ends-u-requires : goal.weld_ends-u-requires
-weld_ends-u-requires c = let e = extruded_within _ _ c.requires.n_bound.0 c.if-len-lt3.false in  record { ready = c.requires.ready; p_len_bound = (c.requires.n_bound.1, λ i. (e, tt), λ i. (e, tt)) }
+weld_ends-u-requires c = let e = extruded_within _ _ c.requires.n_bound.0 c.if-len-lt3.false in record { ready = c.requires.ready; p_len_bound = (c.requires.n_bound.1, λ i. (e, tt), λ i. (e, tt)) }
 
 pub weld_grid-requires : goal.weld_grid-requires
 weld_grid-requires c = record { ready = c.weld_ends-u.ensures.ready; nu_bound = (omega (arith, c.requires.n_bound.1), omega arith, omega arith, extruded_within _ _ c.requires.n_bound.0 c.if-len-lt3.false, tt) }

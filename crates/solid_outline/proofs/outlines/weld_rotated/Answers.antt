@@ -31,10 +31,13 @@ slice_bounds-weld_rotated_from-end c =
 pub weld_rotated_from-requires : goal.weld_rotated_from-requires
 weld_rotated_from-requires c =
     let o = c.prepare-len in
-    let d = c in  record { ready = d.requires.ready; segments_bound = (
+    let d = c in record {
+      ready = d.requires.ready;
+      segments_bound = (
         d.requires.segments_bound.0,
         omega (arith, prepared_few _ _ _ o.ensures.count d.requires.segments_bound.1, length-take-le (2 * o.result) o.new.out (holds_within o.ensures)),
-      ) }
+      );
+    }
 
 pub shape_of-vertices : goal.shape_of-vertices
 shape_of-vertices c = c.weld_rotated_from.ensures.vlong

@@ -27,7 +27,7 @@ pub fill_turns-requires : goal.fill_turns-requires
 fill_turns-requires c = let a = arc_few _ _ _ c.arc_segments-n.ensures c.requires.segments_bound.0 in (a, (arc_some _ _ _ c.arc_segments-n.ensures, a, omega arith))
 
 pub weld_turned-requires : goal.weld_turned-requires
-weld_turned-requires c = let f = c.fill_turns.ensures.0 in  record { ready = c.requires.ready; turn_within = record { corners = c.requires.segments_bound.1; few = omega (arith, c.requires.segments_bound.1); steps = arc_few _ _ _ c.arc_segments-n.ensures c.requires.segments_bound.0; within = rotated_within _ _ _ _ _ c.if-len-lt3.false c.requires.segments_bound.0 c.arc_segments-n.ensures (omega arith); tabled = f; near = λ i. (rotated_within _ _ _ _ _ c.if-len-lt3.false c.requires.segments_bound.0 c.arc_segments-n.ensures (omega arith), filled_less _ _ 0 _ (omega arith) f); far = λ i. (rotated_within _ _ _ _ _ c.if-len-lt3.false c.requires.segments_bound.0 c.arc_segments-n.ensures (omega arith), f) } }
+weld_turned-requires c = let f = c.fill_turns.ensures.0 in record { ready = c.requires.ready; turn_within = record { corners = c.requires.segments_bound.1; few = omega (arith, c.requires.segments_bound.1); steps = arc_few _ _ _ c.arc_segments-n.ensures c.requires.segments_bound.0; within = rotated_within _ _ _ _ _ c.if-len-lt3.false c.requires.segments_bound.0 c.arc_segments-n.ensures (omega arith); tabled = f; near = λ i. (rotated_within _ _ _ _ _ c.if-len-lt3.false c.requires.segments_bound.0 c.arc_segments-n.ensures (omega arith), filled_less _ _ 0 _ (omega arith) f); far = λ i. (rotated_within _ _ _ _ _ c.if-len-lt3.false c.requires.segments_bound.0 c.arc_segments-n.ensures (omega arith), f) } }
 
 pub shape_of-vertices : goal.shape_of-vertices
 shape_of-vertices c = c.weld_turned.ensures.vlong

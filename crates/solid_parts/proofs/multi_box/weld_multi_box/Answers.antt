@@ -13,11 +13,14 @@ pub loop-i-init : goal.loop-i-init
 loop-i-init c = let x = c in (zero-le, refl, loop_none (box_at x.args.cylindrical x.args.list.now x.args.segments) _ x.requires.ready)
 
 pub weld_box_part-st-requires : goal.weld_box_part-st-requires
-weld_box_part-st-requires c = record { ready = c.loop-i.invariant.2.ready; segments_bound = (
+weld_box_part-st-requires c = record {
+  ready = c.loop-i.invariant.2.ready;
+  segments_bound = (
     c.requires.segments_bound,
     omega
         (arith, c.loop-i-test.true, c.loop-i.invariant.1),
-  ) }
+  );
+}
 
 pub overflow_add-i : goal.overflow_add-i
 overflow_add-i c = omega (

@@ -6,10 +6,13 @@ pub wire_point-c-requires : goal.wire_point-c-requires
 wire_point-c-requires c = c.requires.segments_bound.2
 
 pub weld_sphere-joint-requires : goal.weld_sphere-joint-requires
-weld_sphere-joint-requires c = record { ready = c.requires.ready; segments_bound = (
+weld_sphere-joint-requires c = record {
+  ready = c.requires.ready;
+  segments_bound = (
     c.requires.segments_bound.0,
     c.requires.segments_bound.1,
-  ) }
+  );
+}
 
 pub new_part-part-requires : goal.new_part-part-requires
 new_part-part-requires c = tt

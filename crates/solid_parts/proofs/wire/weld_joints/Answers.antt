@@ -23,7 +23,9 @@ pub overflow_add-j-in-loop-j : goal.overflow_add-j-in-loop-j
 overflow_add-j-in-loop-j c = omega (arith, c.loop-j-test.true, c.loop-j.invariant.1)
 
 pub weld_joint_part-st-requires : goal.weld_joint_part-st-requires
-weld_joint_part-st-requires c = record { ready = c.loop-j.invariant.2.ready; segments_bound = (
+weld_joint_part-st-requires c = record {
+  ready = c.loop-j.invariant.2.ready;
+  segments_bound = (
     c.requires.segments_bound.0,
     c.requires.segments_bound.1,
     omega (
@@ -31,7 +33,8 @@ weld_joint_part-st-requires c = record { ready = c.loop-j.invariant.2.ready; seg
       c.loop-j-test.true,
       c.loop-j.invariant.1,
     ),
-  ) }
+  );
+}
 
 pub overflow_add-j-in-loop-j-2 : goal.overflow_add-j-in-loop-j-2
 overflow_add-j-in-loop-j-2 c = omega (

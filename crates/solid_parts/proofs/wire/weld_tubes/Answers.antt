@@ -16,11 +16,14 @@ pub overflow_add-i : goal.overflow_add-i
 overflow_add-i c = omega (arith, c.loop-i.invariant.0, c.loop-i.invariant.1)
 
 pub weld_tube_part-st-requires : goal.weld_tube_part-st-requires
-weld_tube_part-st-requires c = record { ready = c.loop-i.invariant.2.ready; segments_bound = (
+weld_tube_part-st-requires c = record {
+  ready = c.loop-i.invariant.2.ready;
+  segments_bound = (
     c.requires.segments_bound,
     omega
         (arith, c.loop-i-test.true, c.loop-i.invariant.1),
-  ) }
+  );
+}
 
 pub overflow_add-i-in-loop-i : goal.overflow_add-i-in-loop-i
 overflow_add-i-in-loop-i c = omega (

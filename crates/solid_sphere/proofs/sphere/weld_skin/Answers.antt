@@ -11,7 +11,7 @@ weld_tabled-requires c =
     let p = c.requires in
     let few = c.if-larger-le64.true in
     let most = c.larger.ensures in
-     record { ready = p.0; nt_bound = (p.1.1, p.1.0, p.1.2, omega (arith, few, most), omega (arith, few, most), omega (arith, few, most)) }
+    record { ready = p.ready; nt_bound = (p.le_np.1, p.le_np.0, p.le_np.2, omega (arith, few, most), omega (arith, few, most), omega (arith, few, most)) }
 
 pub shape_of-vertices-then-larger-le64 : goal.shape_of-vertices-then-larger-le64
 shape_of-vertices-then-larger-le64 c = c.weld_tabled.ensures.vlong
@@ -28,7 +28,7 @@ returns-then-larger-le64 c = c.weld_tabled.ensures
 pub weld_tabled-requires-2 : goal.weld_tabled-requires-2
 weld_tabled-requires-2 c =
     let p = c.requires in
-     record { ready = p.0; nt_bound = (p.1.1, p.1.0, p.1.2, omega (arith, p.1.1), omega (arith, p.1.2), omega (arith, p.1.2)) }
+    record { ready = p.ready; nt_bound = (p.le_np.1, p.le_np.0, p.le_np.2, omega (arith, p.le_np.1), omega (arith, p.le_np.2), omega (arith, p.le_np.2)) }
 
 pub shape_of-vertices : goal.shape_of-vertices
 shape_of-vertices c = c.weld_tabled-2.ensures.vlong

@@ -14,7 +14,7 @@ weld_skin-requires c =
     let s = c in
     let t = c.larger-nt.ensures in
     let p = c.larger-np.ensures in
-     record { ready = s.requires.ready; le_np = (omega (arith, p), omega (arith, t, s.requires.segments_bound.1), omega (arith, p, s.requires.segments_bound.0)) }
+    record { ready = s.requires.ready; le_np = (omega (arith, p), omega (arith, t, s.requires.segments_bound.1), omega (arith, p, s.requires.segments_bound.0)) }
 
 pub returns : goal.returns
 unfolding of_bits

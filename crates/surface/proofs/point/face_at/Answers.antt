@@ -9,13 +9,13 @@ pub polar_at-p-requires : goal.polar_at-p-requires
 polar_at-p-requires c =
     let s = c in
     let a = s.args in
-     record { face_within = s.requires.face_within; round_tabled = chart_tabled a.chart a.k a.val a.u a.v a.i a.j _ a.rows.now a.cols.now c.in-Cylindrical.is s.requires.tabled }
+    record { face_within = s.requires.face_within; round_tabled = chart_tabled a.chart a.k a.val a.u a.v a.i a.j _ a.rows.now a.cols.now c.in-Cylindrical.is s.requires.tabled }
 
 pub polar_at-p-requires-in-Around : goal.polar_at-p-requires-in-Around
 polar_at-p-requires-in-Around c =
     let s = c in
     let a = s.args in
-     record { face_within = s.requires.face_within; round_tabled = chart_tabled a.chart a.k a.val a.u a.v a.i a.j _ a.rows.now a.cols.now c.in-Around.is s.requires.tabled }
+    record { face_within = s.requires.face_within; round_tabled = chart_tabled a.chart a.k a.val a.u a.v a.i a.j _ a.rows.now a.cols.now c.in-Around.is s.requires.tabled }
 
 pub returns-in-Cartesian : goal.returns-in-Cartesian
 returns-in-Cartesian c =

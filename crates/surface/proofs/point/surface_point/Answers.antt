@@ -20,7 +20,7 @@ pub entry-requires-in-Rotated : goal.entry-requires-in-Rotated
 entry-requires-in-Rotated c = (tabled_as _ _ _ _ _ _ c.in-Rotated.is c.requires.tabled).long
 
 pub rotated_at-requires : goal.rotated_at-requires
-rotated_at-requires c = let w = within_as _ _ _ _ _ c.in-Rotated.is c.requires.within in  record { fact_1 = w.some; fact_2 = w.held }
+rotated_at-requires c = let w = within_as _ _ _ _ _ c.in-Rotated.is c.requires.within in record { fact_1 = w.some; fact_2 = w.held }
 
 pub returns-in-Face : goal.returns-in-Face
 returns-in-Face c = point_as _ _ _ _ _ _ c.in-Face.is (c.face_at.ensures ∙ on_face_lem _ _ _ _ _ _ _ _)

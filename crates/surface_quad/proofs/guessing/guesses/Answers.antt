@@ -27,5 +27,5 @@ returns-in-4 c = c.numbers_from-in-4.ensures ∙ ap (guesses_of c.args.base) (sy
 pub returns-in_default : goal.returns-in_default
 returns-in_default c =
     let f = c.args.f in
-    let n = c.in_default.rest in
+    let n = c.in_default.in_default-own.rest in
     c.numbers_from-in_default.ensures ∙ ap (guesses_of c.args.base) (sym (last_face f n.0.0.0.0.1 n.0.0.0.1 n.0.0.1 n.0.1 n.1 c.requires.1))

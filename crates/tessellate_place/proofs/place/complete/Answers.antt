@@ -30,6 +30,6 @@ returns c =
     let t = state a.mesh a.vertices.now u.turn_rotated.new.triangles in
     let e : mesh_of t ≡ outward_if a.rotated (mesh_of s) = mesh_is (outward_if a.rotated (mesh_of s)) t s u.turn_rotated.ensures in
     makes_as
-    (ap {B = Refusal} (placed_refusal a.degrees a.ops a.op-count) e)
-    (ap {B = Mesh} (placed a.degrees a.ops a.op-count) e)
+    (ap {B = Refusal} (placed_refusal a.degrees a.ops a.op_count) e)
+    (ap {B = Mesh} (placed a.degrees a.ops a.op_count) e)
     p.place.ensures

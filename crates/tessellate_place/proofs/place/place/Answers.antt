@@ -18,7 +18,7 @@ returns-then-op_count-eq0 c =
     let t = c in
     let a = t.args in
     let s = state a.mesh a.vertices.now a.triangles.now in
-    let p = placed_none a.degrees a.ops a.op-count (mesh_of s) (eq-eqb a.op-count 0 c.if-op_count-eq0.true) in
+    let p = placed_none a.degrees a.ops a.op_count (mesh_of s) (eq-eqb a.op_count 0 c.if-op_count-eq0.true) in
     makes_is c.accepted.ensures (makes_as p.0 p.1 (makes_accepted (mesh_of s) s a.mesh a.vertices.now a.triangles.now (stored_self s t.requires)))
 
 pub returns : goal.returns
@@ -28,7 +28,7 @@ returns c =
     let t = m in
     let a = t.args in
     let s = state a.mesh a.vertices.now a.triangles.now in
-    let p = placed_moves a.degrees a.ops a.op-count (mesh_of s) (ne_eqb a.op-count 0 t.if-op_count-eq0.false) in
+    let p = placed_moves a.degrees a.ops a.op_count (mesh_of s) (ne_eqb a.op_count 0 t.if-op_count-eq0.false) in
     makes_as
     (ap {B = Refusal} (λ (x : Mat4). moved_refusal x (mesh_of s)) f.ensures ∙ p.0)
     (ap {B = Mesh} (λ (x : Mat4). transform x (mesh_of s)) f.ensures ∙ p.1)

@@ -22,12 +22,15 @@ weld_turned_side-requires c =
     let k = s.requires.known g.0 in
     let small = known_small x.w x.vertices.now x.work.now in
     let sa = small x.a x.na s.requires.ready.linked g.1 g.2 k.0 in
-    let sd = small x.d x.nd s.requires.ready.linked g.1 g.2 k.1 in  record { ready = s.requires.ready; clean = (
+    let sd = small x.d x.nd s.requires.ready.linked g.1 g.2 k.1 in record {
+      ready = s.requires.ready;
+      clean = (
         c.plus_zero-e.ensures.1,
         c.plus_zero-f.ensures.1,
         omega (arith, sa, sd),
         omega (arith, sa, sd),
-      ) }
+      );
+    }
 
 pub returns-then-flip : goal.returns-then-flip
 returns-then-flip c =
@@ -48,12 +51,15 @@ weld_side-requires c =
     let k = s.requires.known g.0 in
     let small = known_small x.w x.vertices.now x.work.now in
     let sa = small x.a x.na s.requires.ready.linked g.1 g.2 k.0 in
-    let sd = small x.d x.nd s.requires.ready.linked g.1 g.2 k.1 in  record { ready = s.requires.ready; clean = (
+    let sd = small x.d x.nd s.requires.ready.linked g.1 g.2 k.1 in record {
+      ready = s.requires.ready;
+      clean = (
         c.plus_zero-e.ensures.1,
         c.plus_zero-f.ensures.1,
         omega (arith, sa, sd),
         omega (arith, sa, sd),
-      ) }
+      );
+    }
 
 pub returns-then-is_finite-2 : goal.returns-then-is_finite-2
 returns-then-is_finite-2 c =

@@ -10,7 +10,7 @@ add_triangle-u-requires c =
     let s = c.requires in
     let x = c.weld_point-pb.ensures in
     let y = c.weld_point-pc.ensures in
-    (omega (arith, s.0.faces, x.faces, y.faces), s.1.2, x.small, y.small)
+    (omega (arith, s.ready.faces, x.faces, y.faces), s.clean.2, x.small, y.small)
 
 pub add_triangle-v-requires : goal.add_triangle-v-requires
 add_triangle-v-requires c =

@@ -18,7 +18,7 @@ number_of-number-requires c =
     let s = c in
     let w = s.args.w in
     let L = s.requires.linked.0 in
-    let b = c.bucket_at-at.ensures in  record { distinct = (L.distinct, subst (Chained s.args.vertices.now s.args.work.now w.places w.base) (ap (λ (t : Bool). cond t w.base w.count) s.requires.ordered_value) L.chained); bucket_value = (b.0, b.1, few_places L, s.requires.linked.1) }
+    let b = c.bucket_at-at.ensures in record { distinct = (L.distinct, subst (Chained s.args.vertices.now s.args.work.now w.places w.base) (ap (λ (t : Bool). cond t w.base w.count) s.requires.ordered_value) L.chained); bucket_value = (b.0, b.1, few_places L, s.requires.linked.1) }
 
 pub returns-then-number-count : goal.returns-then-number-count
 returns-then-number-count c =

@@ -10,7 +10,7 @@ pub find-requires : goal.find-requires
 find-requires c =
     let s = c in
     let t = c.settle-s in
-    rw t.ensures.0 ((t.ensures.1, s.requires.1, s.requires.2, s.requires.3, s.requires.4), refl)
+    rw t.ensures.0 (record { linked = (t.ensures.1, s.requires.1, s.requires.2, s.requires.3, s.requires.4); ordered_value = refl })
 
 pub returns : goal.returns
 returns c =

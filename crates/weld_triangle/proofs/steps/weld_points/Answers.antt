@@ -57,5 +57,5 @@ returns c =
     let v = c.look_up-v in
     let w = c.look_up-t in
     let r = c.add_triangle in
-    points_run _ _ _ _ _ _ _ u.result u.last.0 u.last.1.0 v.result v.new.vertices v.new.work w.result _ _ r.result _
-    u.ensures v.ensures w.ensures r.ensures (same_length c) r.auto.triangles (same-length-3 c)
+    points_run _ _ _ _ _ _ _ u.result u.new.vertices u.new.work v.result v.new.vertices v.new.work w.result _ _ r.result _
+    u.ensures v.ensures w.ensures r.ensures (shape_of-vertices c) r.auto.triangles (shape_of-work c)
