@@ -10,7 +10,7 @@ pub fill_entries-requires : goal.fill_entries-requires
 fill_entries-requires c =
     let n = ap (λ (l : Line). l.n) c.line_of-l.ensures in
     let p = c.requires.n_bound in
-    record { turns_within = (omega (arith, n, p.ready), omega (arith, n)); n_in_bounds = p.n_bound }
+    record { turns_within = (omega (arith, n, p.0), omega (arith, n)); n_in_bounds = p.1 }
 
 pub weld_faces-requires : goal.weld_faces-requires
 weld_faces-requires c =
