@@ -1,2 +1,3 @@
--- What several proofs of `replay_format` cite.
+-- What several proofs of `replay_format` cite, and those of `replay_head`.
+mod Operations
 mod Heads

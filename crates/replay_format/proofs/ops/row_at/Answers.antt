@@ -1,0 +1,12 @@
+-- `replay_format::ops::row_at` meets its contract. Assumes nothing.
+use borrow.Author.Rules.{rules}
+use Rattle.replay_format.proofs.ops.row_at.Goals as goal
+
+pub returns : goal.returns
+returns c i =
+    record {
+      x = c.float_at.ensures i;
+      y = c.float_at-2.ensures i;
+      z = c.float_at-3.ensures i;
+      w = c.float_at-4.ensures i;
+    }
