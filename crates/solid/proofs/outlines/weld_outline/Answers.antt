@@ -1,4 +1,5 @@
 -- `solid::outlines::weld_outline` meets its contract. Assumes nothing.
+use borrow.Enum.Refused.{opened}
 use borrow.Author.Rules.{rules}
 use native.Mathlib.Omega.{arith}
 use Rattle.solid.proofs.ShapeRuns.{polygon_soup_lem, lin_soup, outline_as, outline_none, listed_as}
@@ -56,4 +57,4 @@ pub returns-in-RotPoly : goal.returns-in-RotPoly
 returns-in-RotPoly c = outline_as _ _ _ _ _ _ c.in-RotPoly.is c.weld_rot_poly.ensures
 
 pub returns-in_default : goal.returns-in_default
-returns-in_default c = outline_none c.args.shape _ _ _ c.requires.ready c.in_default.in_default-own.keys4
+returns-in_default c = outline_none c.args.shape _ _ _ c.requires.ready (opened c.in_default.in_default-own.keys4)

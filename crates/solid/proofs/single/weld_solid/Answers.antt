@@ -1,4 +1,5 @@
 -- `solid::single::weld_solid` meets its contract. Assumes nothing.
+use borrow.Enum.Refused.{opened}
 use borrow.Author.Rules.{rules}
 use Rattle.solid.proofs.ShapeRuns.{sphere_soup_lem, solid_as, solid_none}
 use Rattle.solid.proofs.single.weld_solid.Goals as goal
@@ -52,4 +53,4 @@ pub returns-in-SphericalShell : goal.returns-in-SphericalShell
 returns-in-SphericalShell c = solid_as _ _ _ _ _ _ c.in-SphericalShell.is c.weld_spherical_shell.ensures
 
 pub returns-in_default : goal.returns-in_default
-returns-in_default c = solid_none c.args.shape _ _ _ c.requires.ready c.in_default.in_default-own.keys4
+returns-in_default c = solid_none c.args.shape _ _ _ c.requires.ready (opened c.in_default.in_default-own.keys4)

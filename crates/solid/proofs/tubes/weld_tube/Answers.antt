@@ -1,4 +1,5 @@
 -- `solid::tubes::weld_tube` meets its contract. Assumes nothing.
+use borrow.Enum.Refused.{opened}
 use borrow.Author.Rules.{rules}
 use lib.Ieee.{of_bits}
 use Rattle.solid_spec.specs.Cylinder.{cylinder_soup, cylindrical_shell_soup}
@@ -38,4 +39,4 @@ unfolding cylindrical_shell_soup
 returns-in-CylindricalShell c = tube_as _ _ _ _ _ _ c.in-CylindricalShell.is c.weld_between-in-CylindricalShell.ensures
 
 pub returns-in_default : goal.returns-in_default
-returns-in_default c = tube_none c.args.shape _ _ _ c.requires.ready c.in_default.in_default-own.keys3
+returns-in_default c = tube_none c.args.shape _ _ _ c.requires.ready (opened c.in_default.in_default-own.keys3)
