@@ -41,9 +41,9 @@ accepted : answer right right ≡ Accepted
 unfolding answer
 accepted = refl
 
-no_room : answer full right ≡ NoRoom
+no_room_lem : answer full right ≡ NoRoom
 unfolding answer
-no_room = refl
+no_room_lem = refl
 
 -- the box of either counts
 first_box : answer wrong right ≡ BadMesh

@@ -1,4 +1,5 @@
 -- `shape_finite::list_finite` meets its contract. Assumes nothing.
+use borrow.Enum.Refused.{opened}
 use borrow.Author.Rules.{rules}
 use mathlib.Core.Path.{◌≡◌, refl, sym, ap, ◌∙◌}
 use mathlib.Core.List.{List, [], ◌∷◌}
@@ -29,4 +30,4 @@ returns-in-NoItems c = sym (ap (λ (i : Items). every finite (list_of i c.args.l
 pub returns-in_default : goal.returns-in_default
 returns-in_default c =
     let args = c.args in
-    c.all_finite.ensures ∙ every_all finite args.list.now ∙ ap (every finite) (whole args.items args.list.now c.in_default.in_default-own.keys2)
+    c.all_finite.ensures ∙ every_all finite args.list.now ∙ ap (every finite) (whole args.items args.list.now (opened c.in_default.in_default-own.keys2))

@@ -20,11 +20,13 @@ returns c =
     let a = m.args in
     let j = job a.shape a.list.now a.own a.default a.options a.degrees a.ops a.op_count in
     let n = lent a.vertices.now a.triangles.now a.work.now in
-    let l = m.make-made.new.vertices in
-    let lv : length l.0 ≡ length a.vertices.now = e.vertices-1.given in
-    let lt : length l.1.0 ≡ length a.triangles.now = e.triangles-1.given in
-    let lw : length l.1.1.0 ≡ length a.work.now = e.work-1.given in
+    let v = m.make-made.new.vertices in
+    let t = m.make-made.new.triangles in
+    let w = m.make-made.new.work in
+    let lv : length v ≡ length a.vertices.now = e.vertices-1.given in
+    let lt : length t ≡ length a.triangles.now = e.triangles-1.given in
+    let lw : length w ≡ length a.work.now = e.work-1.given in
     promised j n _ _ _ _ (solid_fits a.shape a.list.now _ m.well_formed.0 m.shared_slice_known-1.given)
     (gives_as
-    (ap {B = Ending} (made_as (refusal_of j n) (final_mesh j)) (lent_same l.0 a.vertices.now l.1.0 a.triangles.now l.1.1.0 a.work.now lv lt lw))
-    (makes_gives (refusal_of j n) (final_mesh j) m.make-made.result l.0 l.1.0 l.1.1.0 m.make-made.ensures _ _ _ _ e.end.ensures))
+    (ap {B = Ending} (made_as (refusal_of j n) (final_mesh j)) (lent_same v a.vertices.now t a.triangles.now w a.work.now lv lt lw))
+    (makes_gives (refusal_of j n) (final_mesh j) m.make-made.result v t w m.make-made.ensures _ _ _ _ e.end.ensures))

@@ -1,7 +1,6 @@
 -- `tessellate_place::place::moved` meets its contract. Assumes nothing.
 use mathlib.Core.Path.{refl}
 use mathlib.Core.Bool.{false≢true}
-use borrow.Author.Tests.{not-true, not-false}
 use Rattle.refusal.specs.declared.Refusal.TheVariants.{PointNotFinite}
 use Rattle.mesh_spec.specs.Edits.{transform}
 use Rattle.mesh_check.specs.State.{state, mesh_of}
@@ -16,7 +15,7 @@ returns-then-not-stay_finite c =
     let a = c.args in
     let s = state a.mesh a.vertices.now a.triangles.now in
     makes_is c.refused.ensures
-    (makes_as (moved_refused a.a s f.result f.ensures (not-true f.result c.if-not-stay_finite.true)) refl
+    (makes_as (moved_refused a.a s f.result f.ensures c.if-not-stay_finite.true) refl
     (makes_refused PointNotFinite (transform a.a (mesh_of s)) a.vertices.now a.triangles.now refl))
 
 pub move_mesh-after-requires : goal.move_mesh-after-requires
