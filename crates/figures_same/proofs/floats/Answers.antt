@@ -1,6 +1,6 @@
 -- `figures_same::floats` meets its contract: what is left to compare decides. Assumes nothing.
 use mathlib.Core.Path.{refl}
-use borrow.Author.Tests.{not-true, not-false}
+use Rattle.std.proofs.lemmas.Bool.{not-true, not-false}
 use Rattle.figures_same.proofs.Fronts.{Left, begins_short, begins_end, begins_differs, begins_same}
 use lib.Ieee.{eq, ne, nan}
 use native.Mathlib.Omega.{arith}
@@ -31,7 +31,7 @@ unfolding ne
 returns-then-v-i c =
     let a = c.args in
     let l = c.loop-i in
-    begins_differs eq a.v.now a.front.now l.i nan l.invariant.0 (omega arith) c.if-v-i.true l.invariant.1
+    begins_differs eq a.v.now a.front.now l.i nan l.invariant.0 (omega arith) (not-true _ c.if-v-i.true) l.invariant.1
 
 pub overflow_add-i : goal.overflow_add-i
 overflow_add-i c = omega arith
@@ -44,7 +44,7 @@ unfolding ne
 loop-i-preserved c =
     let a = c.args in
     let l = c.loop-i in
-    (l.invariant.0, begins_same eq a.v.now a.front.now l.i nan l.invariant.0 (omega arith) c.if-v-i.false l.invariant.1)
+    (l.invariant.0, begins_same eq a.v.now a.front.now l.i nan l.invariant.0 (omega arith) (not-false _ c.if-v-i.false) l.invariant.1)
 
 pub returns : goal.returns
 returns c =
