@@ -1,6 +1,6 @@
 -- `fixture_draw::next::step` meets its contract. Assumes nothing.
 use borrow.Author.Rules.{rules}
-use borrow.Author.Tests.{not-true, not-false}
+use Rattle.std.proofs.lemmas.Bool.{not-true, not-false}
 use mathlib.Core.Path.{sym, ◌∙◌}
 use Rattle.fixture_draw.proofs.Walks.{walk_is, here, stepped_none, stepped_refused, placing, stepped_more}
 use Rattle.fixture_draw.proofs.next.step.Goals as goal
@@ -16,7 +16,7 @@ returns-then-not-j c =
     let s = n in
     let a = s.args in
     walk_is _ _ _ _ _ _ c.stopped.ensures
-    (stepped_none a.file.now a.w a.out.now s.requires.0 n.next_job-j.result n.next_job-j.ensures c.if-not-j.true)
+    (stepped_none a.file.now a.w a.out.now s.requires.0 n.next_job-j.result n.next_job-j.ensures (not-true _ c.if-not-j.true))
 
 pub draw_job-made-requires : goal.draw_job-made-requires
 draw_job-made-requires c =
@@ -39,7 +39,7 @@ returns-then-not-is_accepted c =
     let a = s.args in
     walk_is _ _ _ _ _ _ c.stopped-then-not-is_accepted.ensures
     (stepped_refused a.file.now a.w a.out.now s.requires.0 n.next_job-j.result n.next_job-j.ensures
-    d.if-not-j.false _ _ _ _ d.draw_job-made.ensures
+    (not-false _ d.if-not-j.false) _ _ _ _ d.draw_job-made.ensures
     (sym c.is_accepted.ensures ∙ c.if-not-is_accepted.true))
 
 pub place-requires : goal.place-requires
@@ -50,7 +50,7 @@ place-requires c =
     let s = n in
     let a = s.args in
     placing a.file.now a.w a.out.now s.requires.0 n.next_job-j.result n.next_job-j.ensures
-    d.if-not-j.false _ _ _ _ d.draw_job-made.ensures
+    (not-false _ d.if-not-j.false) _ _ _ _ d.draw_job-made.ensures
     (sym i.is_accepted.ensures ∙ c.if-not-is_accepted.false)
     (i.vertices-1.given ∙ s.requires.1.vertices) (i.triangles-1.given ∙ s.requires.1.triangles)
 
@@ -64,6 +64,6 @@ returns c =
     let a = s.args in
     walk_is _ _ _ _ _ _ p.place.ensures.0
     (stepped_more a.file.now a.w a.out.now s.requires.0 n.next_job-j.result n.next_job-j.ensures
-    d.if-not-j.false _ _ _ _ d.draw_job-made.ensures
+    (not-false _ d.if-not-j.false) _ _ _ _ d.draw_job-made.ensures
     (sym i.is_accepted.ensures ∙ p.if-not-is_accepted.false)
     (i.vertices-1.given ∙ s.requires.1.vertices) (i.triangles-1.given ∙ s.requires.1.triangles) _ p.place.ensures.1)
