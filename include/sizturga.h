@@ -1,7 +1,7 @@
 /*
  * Sizturga: the planner's call. A file of solids (clamps, stock, tool holders) becomes one triangle mesh.
  *
- * C99 and C++17. Link target/staticlib/libsizturga.a, which `rt staticlib sizturga` writes for x86-64.
+ * C99 and C++17. Link target/staticlib/libsizturga.a, which `tests/staticlib sizturga` writes for x86-64.
  */
 #ifndef SIZTURGA_H
 #define SIZTURGA_H

@@ -1,4 +1,4 @@
-//! Links target/staticlib/libc_numbers.a, which `rt staticlib c_numbers` writes.
+//! Links target/staticlib/libc_numbers.a, which `tests/staticlib c_numbers` writes.
 fn main() {
     let place = std::path::Path::new(env!("CARGO_MANIFEST_DIR")).join("../../target/staticlib");
     println!("cargo:rerun-if-changed={}", place.join("libc_numbers.a").display());

@@ -1,4 +1,4 @@
-//! Links target/staticlib/libsizturga.a, which `rt staticlib sizturga` writes; SIZTURGA_LIB names another libsizturga.a.
+//! Links target/staticlib/libsizturga.a, which `tests/staticlib sizturga` writes; SIZTURGA_LIB names another libsizturga.a.
 use std::path::{Path, PathBuf};
 
 fn main() {

@@ -1,4 +1,4 @@
-//! Links target/staticlib/libc_solids.a, which `rt staticlib c_solids` writes.
+//! Links target/staticlib/libc_solids.a, which `tests/staticlib c_solids` writes.
 fn main() {
     let place = std::path::Path::new(env!("CARGO_MANIFEST_DIR")).join("../../target/staticlib");
     println!("cargo:rerun-if-changed={}", place.join("libc_solids.a").display());
