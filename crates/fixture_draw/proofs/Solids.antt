@@ -23,10 +23,11 @@ use Rattle.mesh_check.specs.declared.TriMesh.{TriMesh}
 use Rattle.mesh_check.specs.State.{State, state, mesh_of, record_for}
 use Rattle.mesh_made.specs.declared.Made.{Made}
 use Rattle.mesh_made.specs.Made.{Lent, Ending, GivesMade, made_as, accepted_as}
-use Rattle.mesh_made.specs.MadeLaws.{left_as, made_unrefused, made_holds}
+use Rattle.mesh_made.specs.MadeLaws.{left_as}
+use Rattle.mesh_made.proofs.MadeLawsHeld.{made_unrefused, made_holds}
 use Rattle.tessellate_spec.specs.Outcome.{Job, final_mesh, refusal_of, tessellate_of}
 use Rattle.tessellate_law.specs.Words.{Accepts}
-use Rattle.tessellate_law.specs.Demand3.{demand3}
+use Rattle.tessellate_law.proofs.Demand3Laws.{demand3}
 use Rattle.fixture_spec.specs.Outcome.{solid_lent, drawn, drawn_mesh}
 use Rattle.fixture_law.specs.Jobs.{drawn_final}
 use Rattle.fixture_law.specs.Counts.{Within, drawn_within}

@@ -9,7 +9,7 @@ use Rattle.refusal.specs.Laws.{accepted_is}
 use Rattle.mesh_spec.specs.Mesh.{Mesh, append}
 use Rattle.mesh_check.specs.State.{no_room}
 use Rattle.mesh_made.specs.Made.{Lent, short_work}
-use Rattle.mesh_made.specs.MadeLaws.{made_unrefused}
+use Rattle.mesh_made.proofs.MadeLawsHeld.{made_unrefused}
 use Rattle.tessellate_spec.specs.Outcome.{Job, final_mesh, welded_mesh, job_refusal, bad_soup, bad_vertex, refusal_of, tessellate_of}
 use Rattle.tessellate_law.specs.Words.{Accepts}
 use Rattle.tessellate_law.specs.AcceptedLaws.{given_final}

@@ -3,11 +3,12 @@ use Rattle.std.specs.Prelude.{◌≡◌, List, [], ◌∷◌, ℕ}
 use Rattle.refusal.specs.declared.Refusal.TheVariants.{Accepted}
 use Rattle.mesh_spec.specs.Mesh.{Mesh, no_mesh, append}
 use Rattle.mesh_spec.specs.Closed.{Closed, Proper}
-use Rattle.mesh_spec.specs.ClosedLaws.{no_mesh_closed, append_closed}
-use Rattle.mesh_spec.specs.ProperLaws.{append_none_twice, append_all_there}
+use Rattle.mesh_spec.specs.ClosedLaws.{no_mesh_closed}
+use Rattle.mesh_spec.proofs.ClosedLawsHeld.{append_closed}
+use Rattle.mesh_spec.proofs.ProperLawsHeld.{append_none_twice, append_all_there}
 use Rattle.tessellate_spec.specs.Outcome.{Job}
 use Rattle.tessellate_law.specs.Words.{Accepts}
-use Rattle.tessellate_law.specs.Demand3.{demand3}
+use Rattle.tessellate_law.proofs.Demand3Laws.{demand3}
 use Rattle.fixture_spec.specs.Solids.{jobs_of}
 use Rattle.fixture_spec.specs.Outcome.{solid_lent, drawn, drawn_mesh, fixture_mesh, open_refusal}
 use Rattle.fixture_law.specs.Words.{AllSolid, EachJob, AllAccepted, AllFitting}

@@ -54,11 +54,3 @@ here_rev u v = fun_ext (λ a. fun_ext (λ b. ap (λ (c : Bool). cond c 1 0) (and
 -- docs/SCOPE.md, "Words of demand 3": each directed edge (u, v) is used exactly as often as its reverse (v, u)
 abbrev pub EdgesBalance : List (Tri ℕ) → Type 0
 EdgesBalance ts = (u v : ℕ) → uses u v (edges ts) ≡ uses v u (edges ts)
-
-pub balanced_edges : (ts : List (Tri ℕ)) → Balanced ts → EdgesBalance ts
-balanced_edges ts p u v = uses_sum u v ts ∙ p (here u v) ∙ ap (λ w. sum w ts) (sym (here_rev u v)) ∙ sym (uses_sum v u ts)
-
--- the corners are numbered by any function, equal numbers or not, and of the triangles that lose a corner by that any may be dropped
-pub welded_edges : {P : Type 0} (k : Tri ℕ → Bool) → ((t : Tri ℕ) → k t ≡ false → Flat t) → (f : P → ℕ) (ts : List (Tri P))
-    → Balanced ts → EdgesBalance (keep_if k (map (map_tri f) ts))
-welded_edges k flat f ts p = balanced_edges (keep_if k (map (map_tri f) ts)) (balanced_keep k flat (map (map_tri f) ts) (balanced_map f ts p))

@@ -2,18 +2,14 @@
 use Rattle.std.specs.Prelude.{◌≡◌, List, [], ◌∷◌, ℕ}
 use Rattle.std.proofs.Common.{arith}
 use Rattle.mesh_balance_spec.specs.Soup.{Tri, Balanced}
-use Rattle.mesh_balance_spec.specs.Count.{EdgesBalance, balanced_edges}
+use Rattle.mesh_balance_spec.specs.Count.{EdgesBalance}
 
 -- the faces of a tetrahedron with the vertices 0, 1, 2, 3
 abbrev pub tetrahedron : List (Tri ℕ)
 tetrahedron = (0, 2, 1) ∷ (0, 1, 3) ∷ (1, 2, 3) ∷ (2, 0, 3) ∷ []
 
-faces_balance : Balanced tetrahedron
+pub faces_balance : Balanced tetrahedron
 faces_balance w = omega arith
-
--- each of its edges is used once each way
-pub tetrahedron_balances : EdgesBalance tetrahedron
-tetrahedron_balances = balanced_edges tetrahedron faces_balance
 
 -- of a triangle alone, the edge (0, 1) is used once, and (1, 0) not at all
 pub triangle_open : EdgesBalance ((0, 1, 2) ∷ []) → ⊥

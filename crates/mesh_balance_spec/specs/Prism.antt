@@ -83,6 +83,3 @@ fan_law zero w = omega arith
 fan_law (suc n) w =
     let t : List (Tri ℕ) = (0, suc n, suc (suc n)) ∷ [] in
     omega (arith, fan_law n w, sum_append w (fan n) t, sum_append (rev w) (fan n) t)
-
-pub fan_prism : {P : Type 0} (n : ℕ) (lo hi : ℕ → P) → Balanced (prism_of (suc n) (fan n) lo hi)
-fan_prism n lo hi = prism_of_balanced (suc n) (fan n) lo hi (fan_law n)

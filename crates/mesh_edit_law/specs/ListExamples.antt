@@ -26,7 +26,7 @@ use Rattle.mesh_check_append.specs.Append.{append_refusal}
 use Rattle.mesh_check_transform.specs.Transform.{transform_refusal}
 use Rattle.mesh_edit_law.specs.Outcome.{edited}
 use Rattle.mesh_edit_law.specs.Edits.{append_of, flip_of, transform_of}
-use Rattle.mesh_edit_law.specs.Lists.{Call, Append, Flip, Transform, after, Brings, AllBring, kept_by_lists}
+use Rattle.mesh_edit_law.specs.Lists.{Call, Append, Flip, Transform, after, Brings, AllBring}
 
 -- after, with what it takes to compute it
 unfoldable computed : State → List Call → State
@@ -36,17 +36,17 @@ unfolding append_of flip_of transform_of edited append_refusal transform_refusal
 computed s calls = after s calls
 
 -- places for four vertices and four triangles, none of them counted
-abbrev start : State
+abbrev pub start : State
 start = state empty_record (replicate 12 plus_zero) (replicate 12 0)
 
 -- a tetrahedron, and one triangle
 abbrev whole : State
 whole = state (record_of 4 4 zero_box) (replicate 12 plus_zero) (flat tetrahedron)
 
-abbrev sheet : State
+abbrev pub sheet : State
 sheet = state (record_of 3 1 zero_box) (replicate 9 plus_zero) (0 ∷ 1 ∷ 2 ∷ [])
 
-abbrev calls : List Call
+abbrev pub calls : List Call
 calls = Append whole ∷ Flip ∷ Append sheet ∷ []
 
 -- the first two calls leave the tetrahedron turned, and the third changes nothing
@@ -63,37 +63,21 @@ pub sheet_refused : (append_of (after start (Append whole ∷ Flip ∷ [])) shee
 unfolding computed
 sheet_refused = refl
 
-refused : NoRoom ≡ Accepted → ⊥
+pub refused : NoRoom ≡ Accepted → ⊥
 refused e = let z : ◌≡◌ {A = ℕ} 7 0 = ap number_of e in omega arith
 
-whole_closed : Closed (mesh_of whole)
+pub whole_closed : Closed (mesh_of whole)
 unfolding mesh_of
 whole_closed = tetrahedron_closed
 
-start_closed : Closed (mesh_of start)
+pub start_closed : Closed (mesh_of start)
 unfolding mesh_of
 start_closed = no_mesh_closed
 
--- so the list brings closed meshes, though the sheet is open: its call is refused
-pub calls_bring : AllBring Closed calls start
-calls_bring = (λ e. whole_closed, (tt, (λ e. absurd (refused (sym sheet_refused ∙ e)), tt)))
-
-pub after_closed : Closed (mesh_of (after start calls))
-after_closed = kept_by_lists.closed start calls start_closed calls_bring
-
--- at the start the sheet would be accepted, and is not brought as a closed mesh
-pub sheet_not_brought : Brings Closed (Append sheet) start → ⊥
-unfolding mesh_of
-sheet_not_brought h = let e : ◌≡◌ {A = ℕ} 1 0 = (h sheet_accepted).edges_balance 0 1 in omega arith
-
 -- ---- the record's box
-start_right : RightBox start
+pub start_right : RightBox start
 unfolding computed
 start_right = tt
-
--- the box is right after the list, though the last call is refused
-pub after_right : RightBox (after start calls)
-after_right = kept_by_lists.right_box start calls start_right
 
 -- the sheet, with the box of no vertices claimed
 abbrev wrong : State

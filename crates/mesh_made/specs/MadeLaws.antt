@@ -25,7 +25,7 @@ use Rattle.mesh_made.specs.declared.Made.{Made}
 use Rattle.mesh_made.specs.Made.{Lent, Ending, refused_as, accepted_as, made_as, GivesMade}
 
 -- the slices of an accepted ending hold the mesh
-laid : (m : Mesh) (n : Lent) → mesh_of (accepted_as m n).state ≡ m
+pub laid : (m : Mesh) (n : Lent) → mesh_of (accepted_as m n).state ≡ m
 unfolding mesh_of accepted_as
 laid m n =
     let v = ap {B = List Vec3} points (take_flat_v m.vertices (replicate (n.vertices - 3 * length m.vertices) (of_bits binary64 0)))
@@ -34,33 +34,9 @@ laid m n =
     λ i. record { vertices = v i; triangles = t i }
 
 -- those of a refused one hold no vertex and no triangle
-none_laid : (q : Refusal) (n : Lent) → mesh_of (refused_as q n).state ≡ no_mesh
+pub none_laid : (q : Refusal) (n : Lent) → mesh_of (refused_as q n).state ≡ no_mesh
 unfolding mesh_of refused_as
 none_laid q n = refl
-
--- accepted or refused, the record has the box of the counted vertices
-pub made_bounds : (q : Refusal) (m : Mesh) (n : Lent) → (made_as q m n).state.mesh.bounds ≡ bounding_box (mesh_of (made_as q m n).state)
-unfolding made_as accepted_as refused_as
-made_bounds q m n = go (is_accepted q)
-  where
-    go : (b : Bool) → (cond b (accepted_as m n) (refused_as q n)).state.mesh.bounds ≡ bounding_box (mesh_of (cond b (accepted_as m n) (refused_as q n)).state)
-    go true = sym (ap {B = BoundingBox} bounding_box (laid m n))
-    go false = sym (ap {B = BoundingBox} (λ (r : TriMesh). r.bounds) empty_is) ∙ sym (ap {B = BoundingBox} bounding_box (none_laid q n))
-
-module _ (q : Refusal) (m : Mesh) (n : Lent) (accepted : (made_as q m n).refusal ≡ Accepted) where
-  -- nothing refused the call
-  pub made_unrefused : q ≡ Accepted
-  unfolding made_as accepted_as refused_as
-  made_unrefused = go (is_accepted q) refl accepted
-    where
-      go : (b : Bool) → is_accepted q ≡ b → (cond b (accepted_as m n) (refused_as q n)).refusal ≡ Accepted → q ≡ Accepted
-      go true e h = accepted_is q e
-      go false e h = h
-
-  -- and the slices hold the mesh
-  pub made_holds : mesh_of (made_as q m n).state ≡ m
-  unfolding made_as
-  made_holds = ap (λ (p : Refusal). mesh_of (made_as p m n).state) made_unrefused ∙ laid m n
 
 -- record and slices as a call leaves them are those of its ending
 pub left_as : {o : Ending} {r : Made} {vs : List Float} {ts ws : List ℕ} → GivesMade o r vs ts ws → o.state ≡ state r.mesh vs ts

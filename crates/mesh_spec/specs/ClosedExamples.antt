@@ -4,8 +4,10 @@ use Rattle.std.proofs.Common.{arith}
 use Rattle.math.specs.declared.Vec3.{Vec3}
 use Rattle.math.specs.Vec.{zero_v}
 use Rattle.mesh_balance_spec.specs.Soup.{Tri, Balanced}
-use Rattle.mesh_balance_spec.specs.Count.{EdgesBalance, balanced_edges}
-use Rattle.mesh_balance_spec.specs.Examples.{tetrahedron, tetrahedron_balances}
+use Rattle.mesh_balance_spec.specs.Count.{EdgesBalance}
+use Rattle.mesh_balance_spec.proofs.CountLaws.{balanced_edges}
+use Rattle.mesh_balance_spec.specs.Examples.{tetrahedron}
+use Rattle.mesh_balance_spec.proofs.ExamplesLaws.{tetrahedron_balances}
 use Rattle.mesh_spec.specs.Mesh.{Mesh}
 use Rattle.mesh_spec.specs.Closed.{all_of, NoneTwice, AllThere, Closed}
 

@@ -4,30 +4,8 @@ use Rattle.math_matrix.specs.declared.Mat4.{Mat4}
 use Rattle.mesh_spec.specs.Mesh.{Mesh, no_mesh, append, flip}
 use Rattle.mesh_spec.specs.Edits.{transform}
 use Rattle.mesh_spec.specs.Closed.{all_of, Closed}
-use Rattle.mesh_spec.specs.EdgeLaws.{append_edges, flip_edges, transform_edges}
-use Rattle.mesh_spec.specs.ProperLaws.{append_none_twice, flip_none_twice, transform_none_twice, append_all_there, flip_all_there, transform_all_there}
+use Rattle.mesh_spec.specs.EdgeLaws.{append_edges, flip_edges}
 
 pub no_mesh_closed : Closed no_mesh
 unfolding all_of
 no_mesh_closed = record { edges_balance = λ u v. refl; none_twice = tt; all_there = tt }
-
-pub append_closed : (m o : Mesh) → Closed m → Closed o → Closed (append m o)
-append_closed m o h k = record {
-  edges_balance = append_edges m o h.edges_balance k.edges_balance;
-  none_twice = append_none_twice m o h.none_twice k.none_twice;
-  all_there = append_all_there m o h.all_there k.all_there;
-}
-
-pub flip_closed : (m : Mesh) → Closed m → Closed (flip m)
-flip_closed m h = record {
-  edges_balance = flip_edges m h.edges_balance;
-  none_twice = flip_none_twice m h.none_twice;
-  all_there = flip_all_there m h.all_there;
-}
-
-pub transform_closed : (a : Mat4) (m : Mesh) → Closed m → Closed (transform a m)
-transform_closed a m h = record {
-  edges_balance = transform_edges a m h.edges_balance;
-  none_twice = transform_none_twice a m h.none_twice;
-  all_there = transform_all_there a m h.all_there;
-}

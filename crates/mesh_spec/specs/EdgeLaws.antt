@@ -97,11 +97,3 @@ append_edges m o h k = even_append m.triangles (up (length m.vertices) o.triangl
 pub flip_edges : (m : Mesh) → EdgesBalance m.triangles → EdgesBalance (flip m).triangles
 unfolding flip
 flip_edges m h u v = uses_flip u v m.triangles ∙ h v u ∙ sym (uses_flip v u m.triangles)
-
-pub transform_edges : (a : Mat4) (m : Mesh) → EdgesBalance m.triangles → EdgesBalance (transform a m).triangles
-unfolding transform moved
-transform_edges a m h = go (lt (determinant a) (of_bits binary64 0))
-  where
-    go : (b : Bool) → EdgesBalance (cond b (flip (moved a m)) (moved a m)).triangles
-    go true = flip_edges (moved a m) h
-    go false = h

@@ -5,10 +5,8 @@ use Rattle.math.specs.declared.Vec3.{Vec3}
 use Rattle.mesh_balance_spec.specs.Soup.{Tri}
 use Rattle.mesh_spec.specs.Mesh.{Mesh, no_mesh, append, from_soup, every_finite, append_parts, from_parts}
 use Rattle.mesh_spec.specs.Closed.{all_of, AllThere}
-use Rattle.mesh_spec.specs.ProperLaws.{append_all_there}
 use Rattle.slice_law.specs.Bools.{and_assoc}
 use Rattle.mesh_spec.specs.WeldLaws.{none_append}
-use Rattle.mesh_spec.specs.Welded.{from_soup_proper}
 
 -- the Rust's `struct Soup`, by its list
 abbrev pub Soup : Type 0
@@ -29,18 +27,3 @@ pub append_parts_append : (D : Mesh) (xs ys : List Soup) → append_parts D (xs 
 unfolding append_parts
 append_parts_append D [] ys = refl
 append_parts_append D (x ∷ xs) ys = append_parts_append (append D (from_soup x)) xs ys
-
--- one part: `s.finish()`, the same as appending it to nothing
-pub from_parts_one : (s : Soup) → from_parts (s ∷ []) ≡ from_soup s
-unfolding from_parts append_parts
-from_parts_one s = none_append (from_soup s)
-
--- the triangles of a mesh of parts name vertices that are there
-parts_there : (m : Mesh) (parts : List Soup) → AllThere m → AllThere (append_parts m parts)
-unfolding append_parts
-parts_there m [] h = h
-parts_there m (p ∷ ps) h = parts_there (append m (from_soup p)) ps (append_all_there m (from_soup p) h (from_soup_proper p).all_there)
-
-pub from_parts_there : (parts : List Soup) → AllThere (from_parts parts)
-unfolding from_parts all_of
-from_parts_there parts = parts_there no_mesh parts tt

@@ -12,7 +12,7 @@ use Rattle.outline_triangle.specs.Triangle.{tolerance}
 use Rattle.outline_ears.specs.Ears.{counting}
 use Rattle.outline_triangulate.specs.Triangulate.{Clipping, start, passes, finished, triangulated, triangulate_polygon}
 use Rattle.outline_caps_law.specs.Edges.{edges, chain, cycle, none, few_cycle}
-use Rattle.outline_caps_law.specs.Kept.{Kept, kept_on, passes_kept, finished_kept, total, coming}
+use Rattle.outline_caps_law.specs.Kept.{Kept, kept_on, total, coming}
 
 pub counting_length : (k n : ℕ) → length (counting k n) ≡ n
 unfolding counting
@@ -22,23 +22,18 @@ counting_length k (suc n) = ap suc (counting_length (suc k) n)
 -- ---- from the start to the end
 
 -- the state after the last pass and the last triangle
-abbrev last : List Float → ℕ → Clipping
+abbrev pub last : List Float → ℕ → Clipping
 last v n = finished v (tolerance v) (passes (n * n) v (tolerance v) (start n))
 
-kept_last : (v : List Float) (n : ℕ) → Kept (start n) (last v n)
-kept_last v n =
-    kept_on (start n) (passes (n * n) v (tolerance v) (start n)) (last v n)
-    (passes_kept (n * n) v (tolerance v) (start n)) (finished_kept v (tolerance v) (passes (n * n) v (tolerance v) (start n)))
-
-triangulated_last : (v : List Float) (n : ℕ) → 3 ≤ n → triangulated v n ≡ last v n
+pub triangulated_last : (v : List Float) (n : ℕ) → 3 ≤ n → triangulated v n ≡ last v n
 unfolding triangulated
 triangulated_last v n h = rw (le-ltb n 3 h)
 
-most : (n : ℕ) (s : Clipping) → Kept (start n) s → length s.triangles ≤ 3 * (n - 2)
+pub most : (n : ℕ) (s : Clipping) → Kept (start n) s → length s.triangles ≤ 3 * (n - 2)
 unfolding coming start
 most n s k = omega (arith, k.fewer, counting_length 0 n)
 
-around_start : (n : ℕ) (s : Clipping) → 3 ≤ n → Kept (start n) s → length s.triangles ≡ 3 * (n - 2)
+pub around_start : (n : ℕ) (s : Clipping) → 3 ≤ n → Kept (start n) s → length s.triangles ≡ 3 * (n - 2)
     → (w : Weight ℕ) → edges w s.triangles + cycle (rev w) (counting 0 n) ≡ edges (rev w) s.triangles + cycle w (counting 0 n)
 unfolding coming total start edges
 around_start n s h k m w =
@@ -48,7 +43,7 @@ around_start n s h k m w =
 
 -- ---- flat lists of numbers, and the sums of the crate mesh_balance_spec
 
-edges_sum : (w : Weight ℕ) (l : List ℕ) → edges w l ≡ sum w (tris l)
+pub edges_sum : (w : Weight ℕ) (l : List ℕ) → edges w l ≡ sum w (tris l)
 unfolding edges
 edges_sum w [] = refl
 edges_sum w (a ∷ []) = refl
@@ -65,42 +60,8 @@ walk w z k (suc n) =
     ∙ walk w z (suc k) n
     ∙ ap (λ (x : ℕ). path w (λ i. i) x + w x z) e
 
-around : (w : Weight ℕ) (m : ℕ) → cycle w (counting 0 (suc m)) ≡ Prism.cycle m w
+pub around : (w : Weight ℕ) (m : ℕ) → cycle w (counting 0 (suc m)) ≡ Prism.cycle m w
 unfolding cycle counting
 around w m =
     let e : 0 + m ≡ m = omega arith in
     sym (zero-add (chain w 0 0 (counting 1 m))) ∙ walk w 0 0 m ∙ ap (λ (x : ℕ). path w (λ i. i) x + w x 0) e
-
-bounds_last : (n m : ℕ) (s : Clipping) → n ≡ suc m → 3 ≤ n → Kept (start n) s → length s.triangles ≡ 3 * (n - 2)
-    → Bounds (tris s.triangles) (Prism.cycle m)
-bounds_last n m s e h k q w =
-    let t : edges w s.triangles + cycle (rev w) (counting 0 (suc m)) ≡ edges (rev w) s.triangles + cycle w (counting 0 (suc m)) =
-    rw e at (around_start n s h k q w) in
-    omega (arith, t, edges_sum w s.triangles, edges_sum (rev w) s.triangles, around w m, around (rev w) m)
-
--- ---- the theorems
-
-most_by : (v : List Float) (n : ℕ) → Dec (n < 3) → length (triangulated v n).triangles ≤ 3 * (n - 2)
-unfolding triangulated
-most_by v n (yes p) = rw (lt-ltb n 3 p) (omega arith)
-most_by v n (no p) = rw (le-ltb n 3 (omega (arith, p))) (most n (last v n) (kept_last v n))
-
--- n corners give n - 2 triangles at most. Fewer than three give none: n - 2 is 0 for n of 2, and for n of 0 and 1 too, since ℕ has no numbers below 0
-pub triangles_most : (v : List Float) → length (triangulate_polygon v).triangles ≤ 3 * (length v / 2 - 2)
-unfolding triangulate_polygon
-triangles_most v = most_by v (length v / 2) (dec_lt (length v / 2) 3)
-
--- the cap theorem; the corners are 0 .. m, so n is m + 1 and n - 2 is m - 1
-pub caps : (v : List Float) (m : ℕ) → length v / 2 ≡ suc m → 2 ≤ m → length (triangulate_polygon v).triangles ≡ 3 * (m - 1)
-    → Bounds (tris (triangulate_polygon v).triangles) (Prism.cycle m)
-unfolding triangulate_polygon
-caps v m e h q =
-    let n = length v / 2 in
-    let t : triangulated v n ≡ last v n = triangulated_last v n (omega arith) in
-    rw t (bounds_last n m (last v n) e (omega arith) (kept_last v n) (ap (λ (s : Clipping). length s.triangles) (sym t) ∙ q ∙ omega arith))
-
--- the same of the corners that a solid hands to the clipper
-pub caps_prepared : (swap : Bool) (list : List Float) (m : ℕ) → length (prepared swap list) / 2 ≡ suc m → 2 ≤ m
-    → length (triangulate_polygon (prepared swap list)).triangles ≡ 3 * (m - 1)
-    → Bounds (tris (triangulate_polygon (prepared swap list)).triangles) (Prism.cycle m)
-caps_prepared swap list = caps (prepared swap list)

@@ -143,17 +143,11 @@ unfolding fan
 fan_length [] = refl
 fan_length (a ∷ l) = omega (arith, fans_length a l)
 
-fans_edges : (w : Weight ℕ) (a b : ℕ) (l : List ℕ)
+pub fans_edges : (w : Weight ℕ) (a b : ℕ) (l : List ℕ)
     → edges w (fans a (b ∷ l)) + (w b a + chain (rev w) a b l) ≡ edges (rev w) (fans a (b ∷ l)) + (w a b + chain w a b l)
 unfolding fans edges chain
 fans_edges w a b [] = omega arith
 fans_edges w a b (c ∷ l) = omega (arith, fans_edges w a c l)
-
-pub fan_edges : (w : Weight ℕ) (l : List ℕ) → 1 < length l → edges w (fan l) + cycle (rev w) l ≡ edges (rev w) (fan l) + cycle w l
-unfolding fan cycle
-fan_edges w [] h = absurd (not-suc-le-zero h)
-fan_edges w (a ∷ []) h = absurd (not-suc-le-zero (le_of_suc-le-suc h))
-fan_edges w (a ∷ b ∷ l) h = fans_edges w a b l
 
 pub few_cycle : (w : Weight ℕ) (l : List ℕ) → length l ≤ 2 → cycle w l ≡ cycle (rev w) l
 unfolding cycle chain

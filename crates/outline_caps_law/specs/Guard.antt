@@ -39,28 +39,20 @@ pass_spent_ear v e s (At k) h h3 =
     (omega arith, omega arith, omega arith)
 pass_spent_ear v e s Nothing h h3 = pass_spent_flat v e s (first_flat v e s.idx) refl h3
 
-pass_spent : (v : List Float) (e : Float) (s : Clipping) → 3 < length s.idx
+pub pass_spent : (v : List Float) (e : Float) (s : Clipping) → 3 < length s.idx
     → ((pass v e s).removed + 3 ≤ s.removed + length s.idx) × ((pass v e s).removed + length (pass v e s).idx ≤ s.removed + length s.idx) ×
     (length (pass v e s).idx < length s.idx)
 unfolding pass
 pass_spent v e s h3 = pass_spent_ear v e s (first_ear v e s.idx) refl h3
 
 -- after enough passes three corners remain at most, and n - 3 were removed singly at most
-record Done (n : ℕ) (r : Clipping) : Type 0 where
+pub record Done (n : ℕ) (r : Clipping) : Type 0 where
   short : length r.idx ≤ 3
   few : r.removed + 3 ≤ n
 
-done_by : (n : ℕ) (s r : Clipping) (b : Bool) → ltb 3 (length s.idx) ≡ b → s.removed + 3 ≤ n → (3 < length s.idx → Done n r) → Done n (cond b r s)
+pub done_by : (n : ℕ) (s r : Clipping) (b : Bool) → ltb 3 (length s.idx) ≡ b → s.removed + 3 ≤ n → (3 < length s.idx → Done n r) → Done n (cond b r s)
 done_by n s r true h m k = k (ltb-true _ _ h)
 done_by n s r false h m k = record { short = ltb-false _ _ h; few = m }
-
-done_after : (n f : ℕ) (v : List Float) (e : Float) (s : Clipping) → length s.idx ≤ 3 + f → s.removed + 3 ≤ n → s.removed + length s.idx ≤ n
-    → Done n (passes f v e s)
-unfolding passes
-done_after n zero v e s h m g = record { short = omega arith; few = m }
-done_after n (suc f) v e s h m g =
-    done_by n s (passes f v e (pass v e s)) (ltb 3 (length s.idx)) refl m
-    (λ h3. let t = pass_spent v e s h3 in done_after n f v e (pass v e s) (omega arith) (omega arith) (omega arith))
 
 -- ---- the guard
 
@@ -85,19 +77,9 @@ guard_never_stops v e n g h k =
     let l : length (counting 0 n) ≡ n = counting_length 0 n in
     enough g (n * n) v e (start n) (omega arith) (omega (arith, square_enough n h))
 
--- after them three corners remain at most, and n - 3 at most were removed singly
-passes_end : (v : List Float) (e : Float) (n : ℕ) → 3 ≤ n → Done n (passes (n * n) v e (start n))
-unfolding start
-passes_end v e n h =
-    let l : length (counting 0 n) ≡ n = counting_length 0 n in
-    done_after n (n * n) v e (start n) (omega (arith, square_enough n (omega arith))) (omega arith) (omega arith)
-
-pub three_left : (v : List Float) (e : Float) (n : ℕ) → 3 ≤ n → length (passes (n * n) v e (start n)).idx ≤ 3
-three_left v e n h = (passes_end v e n h).short
-
 -- ---- the count of corners removed singly
 
-finished_removed : (v : List Float) (e : Float) (s : Clipping) → (finished v e s).removed ≡ s.removed
+pub finished_removed : (v : List Float) (e : Float) (s : Clipping) → (finished v e s).removed ≡ s.removed
 unfolding finished
 finished_removed v e s =
     go (eqb (length s.idx) 3 && lt e (cross (point v (get_or s.idx 0 0)) (point v (get_or s.idx 1 0)) (point v (get_or s.idx 2 0))))
@@ -105,10 +87,3 @@ finished_removed v e s =
     go : (b : Bool) → (cond b (record { idx = []; triangles = s.triangles ++ take 3 s.idx; removed = s.removed }) s).removed ≡ s.removed
     go true = refl
     go false = refl
-
--- at most n - 3 of n corners, for n of 3 or more
-pub removed_most : (v : List Float) → 3 ≤ length v / 2 → (triangulate_polygon v).removed + 3 ≤ length v / 2
-unfolding triangulate_polygon triangulated
-removed_most v h =
-    let n = length v / 2 in
-    rw (le-ltb n 3 h, finished_removed v (tolerance v) (passes (n * n) v (tolerance v) (start n))) (passes_end v (tolerance v) n h).few

@@ -1,2 +1,3 @@
 -- What the proofs of `shape_arc` share.
 pub mod Spans
+pub mod ArcLawsHeld

@@ -17,24 +17,13 @@ zero_share : (n : ℕ) → 3 ≤ n → n ≤ 1024 → Within (sweep n plus_zero)
 unfolding le of_bits
 zero_share n a b = sweep_within n plus_zero a b tt tt
 
-share_within : (segments : ℕ) (span : Float) → segments ≤ 1024 → Within (arc_share segments span)
+pub share_within : (segments : ℕ) (span : Float) → segments ≤ 1024 → Within (arc_share segments span)
 unfolding arc_share counted_span
 share_within segments span h = go (is_nan span) (λ t. t)
   where
     go : (b : Bool) → (T (not b) → T (not (is_nan span))) → Within (sweep (max segments 3) (cond b plus_zero (minimum (absolute span) tau)))
     go true k = zero_share (max segments 3) (omega arith) (omega arith)
     go false k = arc_within (max segments 3) span (k tt) (omega arith) (omega arith)
-
-pub arc_segments_few : (segments : ℕ) (span : Float) → segments ≤ 1024 → arc_segments segments span ≤ 1024
-unfolding arc_segments
-arc_segments_few segments span h = omega (arith, ceiling_le (arc_share segments span) (share_within segments span h))
-
--- of a number that is known to be arc_segments
-pub arc_few : (n segments : ℕ) (span : Float) → n ≡ arc_segments segments span → segments ≤ 1024 → n ≤ 1024
-arc_few n segments span e h = omega (arith, e, arc_segments_few segments span h)
-
-pub arc_some : (n segments : ℕ) (span : Float) → n ≡ arc_segments segments span → 0 < n
-arc_some n segments span e = omega (arith, e, arc_segments_some segments span)
 
 -- docs/SCOPE.md, F6: arcs of four spans
 pub arc_zero : arc_segments 32 plus_zero ≡ 1

@@ -22,7 +22,8 @@ use Rattle.outline.specs.Area.{signed_area}
 use Rattle.outline.specs.Ccw.{swapped, reversed, ccw_polygon, prepared}
 use Rattle.outline.proofs.Copies.{length_reversed, length_swapped}
 use Rattle.surface.specs.Within.{ExtrudedWithin, RotatedWithin}
-use Rattle.shape_arc.specs.ArcLaws.{arc_segments_some, arc_segments_few}
+use Rattle.shape_arc.specs.ArcLaws.{arc_segments_some}
+use Rattle.shape_arc.proofs.ArcLawsHeld.{arc_segments_few}
 use Rattle.weld.specs.Rep.{Held, Ready, Runs}
 use Rattle.weld.specs.Runs.{runs_none, runs_then, runs_as}
 use Rattle.surface_spec.specs.declared.Surface.TheVariants.{Extruded, Rotated}

@@ -18,7 +18,8 @@ use Rattle.solid_spec.proofs.Every.{Sound, sound_of}
 use Rattle.solid_spec.proofs.Closes.{Closes}
 use Rattle.solid_spec.proofs.Coord.{AxisWithin}
 use Rattle.solid_spec.proofs.Unequal.{ends_unequal, minimum_fits}
-use Rattle.shape_arc.specs.ArcLaws.{arc_segments_some, arc_segments_few}
+use Rattle.shape_arc.specs.ArcLaws.{arc_segments_some}
+use Rattle.shape_arc.proofs.ArcLawsHeld.{arc_segments_few}
 use Rattle.solid_spec.proofs.ParamBoxBalanced.{boxed, six_faces, four_faces_lem}
 use Rattle.solid_spec.proofs.Maps.{as_is_respects, as_is_shows, cylindrical_respects, cylindrical_shows}
 use Rattle.solid_spec.specs.Fits.{UnequalEnds}

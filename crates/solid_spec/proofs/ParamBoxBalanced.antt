@@ -12,7 +12,8 @@ use Rattle.math.specs.declared.Vec3.{Vec3}
 use Rattle.math.specs.Vec.{new}
 use Rattle.mesh_balance_spec.specs.Soup.{Tri, map_tri}
 use Rattle.mesh_balance_spec.specs.Box as Box
-use Rattle.mesh_balance_spec.specs.Box.{box, four_faces, axis0, axis1, axis2, box_balanced, four_faces_balanced}
+use Rattle.mesh_balance_spec.specs.Box.{box, four_faces, axis0, axis1, axis2}
+use Rattle.mesh_balance_spec.proofs.BoxLaws.{box_balanced, four_faces_balanced}
 use Rattle.mesh_spec.specs.Mesh.{plus_zero_v}
 use Rattle.solid_spec.specs.Grid.{Soup, grid}
 use Rattle.solid_spec.specs.ParamBox.{Axis, along, coord, face, faces, param_box}

@@ -17,7 +17,7 @@ use Rattle.outline.specs.Area.{signed_area}
 use Rattle.outline.specs.Ccw.{reversed, ccw_polygon}
 use Rattle.outline.proofs.Copies.{length_reversed}
 use Rattle.outline_triangulate.specs.Triangulate.{triangulate_polygon}
-use Rattle.outline_caps_law.specs.Caps as Cap
+use Rattle.outline_caps_law.proofs.CapsLaws as Cap
 use Rattle.mesh_spec.specs.Mesh.{plus_zero_v}
 use Rattle.shape_arc.specs.Arc.{is_full}
 use Rattle.solid_spec.specs.Outline.{extruded_from, rotated_from}

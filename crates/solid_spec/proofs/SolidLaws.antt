@@ -11,7 +11,8 @@ use Rattle.shape.specs.declared.Shape.TheVariants.{MultiBox, Wire}
 use Rattle.shape.specs.declared.TessellationOptions.{TessellationOptions}
 use Rattle.shape.specs.Rotated.{is_rot_poly}
 use Rattle.mesh_spec.specs.Mesh.{from_soup, from_parts}
-use Rattle.mesh_spec.specs.Parts.{Soup, from_parts_one}
+use Rattle.mesh_spec.specs.Parts.{Soup}
+use Rattle.mesh_spec.proofs.PartsLaws.{from_parts_one}
 use Rattle.solid_spec.specs.Solid.{parts_of, outward_if, solid_mesh}
 use Rattle.solid_spec.proofs.PartsBalanced.{multi_box_parts_count, wire_parts_count}
 

@@ -10,7 +10,7 @@ use Rattle.refusal.specs.Accepted.{is_accepted, or_else}
 use Rattle.mesh_spec.specs.Parts.{parts_finite}
 use Rattle.mesh_check.specs.State.{no_room}
 use Rattle.mesh_made.specs.Made.{Lent, short_work}
-use Rattle.mesh_made.specs.MadeLaws.{made_unrefused, made_holds}
+use Rattle.mesh_made.proofs.MadeLawsHeld.{made_unrefused, made_holds}
 use Rattle.tessellate_spec.specs.Outcome.{Job, job_parts, final_mesh, welded_mesh, job_refusal, bad_soup, bad_vertex, refusal_of, tessellate_of}
 use Rattle.refusal.specs.Laws.{accepted_is}
 use Rattle.tessellate_law.specs.Words.{Accepts, given}

@@ -12,14 +12,16 @@ use Rattle.mesh_spec.specs.Mesh.{Mesh, no_mesh, append, flip, from_soup, append_
 use Rattle.mesh_spec.specs.Edits.{transform}
 use Rattle.mesh_spec.specs.Measures.{signed_volume}
 use Rattle.mesh_spec.specs.Closed.{all_of, Closed, Proper, NoneTwice, AllThere}
-use Rattle.mesh_spec.specs.ClosedLaws.{no_mesh_closed, append_closed, flip_closed, transform_closed}
-use Rattle.mesh_spec.specs.ProperLaws.{append_none_twice, flip_none_twice, transform_none_twice, append_all_there, flip_all_there, transform_all_there}
-use Rattle.mesh_spec.specs.Welded.{from_soup_proper}
+use Rattle.mesh_spec.specs.ClosedLaws.{no_mesh_closed}
+use Rattle.mesh_spec.proofs.ClosedLawsHeld.{append_closed, flip_closed, transform_closed}
+use Rattle.mesh_spec.proofs.ProperLawsHeld.{append_none_twice, flip_none_twice, transform_none_twice, append_all_there, flip_all_there, transform_all_there}
+use Rattle.mesh_spec.proofs.WeldedLaws.{from_soup_proper}
 use Rattle.solid_spec.specs.Grid.{Soup}
 use Rattle.shape.specs.declared.Shape.{Shape}
 use Rattle.shape.specs.Drawing.{cylindrical, shape_cs}
 use Rattle.mesh_check.specs.State.{mesh_of}
-use Rattle.mesh_edit_law.specs.Lists.{Call, after, AllBring, KeptByLists, kept_by_lists}
+use Rattle.mesh_edit_law.specs.Lists.{Call, after, AllBring, KeptByLists}
+use Rattle.mesh_edit_law.proofs.ListsMore.{kept_by_lists}
 use Rattle.mesh_made.specs.Made.{Lent}
 use Rattle.shape.specs.Rotated.{is_rot_poly}
 use Rattle.solid_spec.specs.Solid.{outward, outward_if, solid_mesh}
@@ -82,7 +84,7 @@ module _ (P : Mesh → Type 0) (k : KeptByDrawing P) where
       go true = turned (from_parts ps) h
       go false = h
 
-  final : (j : Job) → EachPart (λ s. P (from_soup s)) (job_parts j) → P (final_mesh j)
+  pub final : (j : Job) → EachPart (λ s. P (from_soup s)) (job_parts j) → P (final_mesh j)
   unfolding final_mesh placed welded_mesh
   final j e = go (eqb j.count 0)
     where
@@ -97,39 +99,16 @@ each : (Q : Soup → Type 0) → ((s : Soup) → Q s) → (ps : List Soup) → E
 each Q h [] = tt
 each Q h (p ∷ ps) = (h p, each Q h ps)
 
--- ---- the proof
-
-is_closed : (j : Job) (n : Lent) → Accepts j n → FitsSolid j.shape j.list → Solid j.shape j.list → Closed (given j n)
-unfolding job_parts
-is_closed j n h f s =
-    let a = accepted_says j n h in
-    let d = a.drawing in
-    let cyl = cylindrical (shape_cs j.shape j.own j.default) in
-    let b = parts_balanced cyl j.list j.options d.segments_most j.shape f d.shape_finite_lem d.list_finite s in
-    subst Closed (sym (given_final j n h))
-    (final Closed (record { empty = no_mesh_closed; appended = append_closed; flipped = flip_closed; transformed = transform_closed }) j
-    (parts_closed (job_parts j) b a.soup))
-
-is_none_twice : (j : Job) (n : Lent) → Accepts j n → NoneTwice (given j n)
+pub is_none_twice : (j : Job) (n : Lent) → Accepts j n → NoneTwice (given j n)
 unfolding all_of
 is_none_twice j n h =
     subst NoneTwice (sym (given_final j n h))
     (final NoneTwice (record { empty = tt; appended = append_none_twice; flipped = flip_none_twice; transformed = transform_none_twice }) j
     (each (λ s. NoneTwice (from_soup s)) (λ s. (from_soup_proper s).none_twice) (job_parts j)))
 
-is_all_there : (j : Job) (n : Lent) → Accepts j n → AllThere (given j n)
+pub is_all_there : (j : Job) (n : Lent) → Accepts j n → AllThere (given j n)
 unfolding all_of
 is_all_there j n h =
     subst AllThere (sym (given_final j n h))
     (final AllThere (record { empty = tt; appended = append_all_there; flipped = flip_all_there; transformed = transform_all_there }) j
     (each (λ s. AllThere (from_soup s)) (λ s. (from_soup_proper s).all_there) (job_parts j)))
-
-pub demand3 : Demand3
-demand3 = record {
-  closed = is_closed;
-  none_twice = is_none_twice;
-  all_there = is_all_there;
-  lists = kept_by_lists;
-  closed_after = λ j n h f s calls b. kept_by_lists.closed (left j n) calls (is_closed j n h f s) b;
-  proper_after = λ j n h calls b. kept_by_lists.proper (left j n) calls (record { none_twice = is_none_twice j n h; all_there = is_all_there j n h }) b;
-}

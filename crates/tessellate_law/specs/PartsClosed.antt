@@ -14,10 +14,10 @@ use Rattle.outline.specs.Ccw.{ccw_polygon}
 use Rattle.outline_triangle.specs.Triangle.{tolerance}
 use Rattle.outline_triangulate.specs.Triangulate.{Clipping, start, passes, finished, triangulated, triangulate_polygon}
 use Rattle.outline_caps_law.specs.Edges.{Thirds, none, more}
-use Rattle.outline_caps_law.specs.Kept.{passes_kept, finished_kept}
+use Rattle.outline_caps_law.proofs.KeptLaws.{passes_kept, finished_kept}
 use Rattle.mesh_spec.specs.Mesh.{from_soup, every_finite}
 use Rattle.mesh_spec.specs.Closed.{Closed}
-use Rattle.mesh_spec.specs.Welded.{from_soup_closed}
+use Rattle.mesh_spec.proofs.WeldedLaws.{from_soup_closed}
 use Rattle.solid_spec.specs.Grid.{Soup}
 use Rattle.shape_arc.specs.Arc.{is_full}
 use Rattle.mesh_spec.specs.Slices.{vertex_at}

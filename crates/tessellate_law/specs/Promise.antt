@@ -8,10 +8,10 @@ use Rattle.mesh_check.specs.State.{State, state, mesh_of}
 use Rattle.mesh_edit_law.specs.Lists.{Call, after, AllBring}
 use Rattle.mesh_made.specs.declared.Made.{Made}
 use Rattle.mesh_made.specs.Made.{Lent, GivesMade}
-use Rattle.mesh_made.specs.MadeLaws.{made_bounds, left_as, left_bounds}
+use Rattle.mesh_made.specs.MadeLaws.{left_as, left_bounds}
+use Rattle.mesh_made.proofs.MadeLawsHeld.{made_bounds}
 use Rattle.tessellate_spec.specs.Outcome.{Job, final_mesh, refusal_of, tessellate_of}
 use Rattle.tessellate_law.specs.Words.{Accepts, left, FitsSolid, Solid}
-use Rattle.tessellate_law.specs.Demand3.{demand3}
 
 -- the answer r and the slices' final lists of a call with the arguments j and slices of the lengths n
 pub record Promise (j : Job) (n : Lent) (r : Made) (vs : List Float) (ts ws : List ℕ) : Type 0 where
@@ -29,29 +29,3 @@ pub record Promise (j : Job) (n : Lent) (r : Made) (vs : List Float) (ts ws : Li
   -- and whichever shape it is, the mesh is proper after any list of calls in which each mesh appended is proper
   pub proper_after : r.refusal ≡ Accepted
       → (calls : List Call) → AllBring Proper calls (state r.mesh vs ts) → Proper (mesh_of (after (state r.mesh vs ts) calls))
-
--- the outcome has it, of the floats of a program
-pub promised : (j : Job) (n : Lent) (r : Made) (vs : List Float) (ts ws : List ℕ)
-    → FitsSolid j.shape j.list → GivesMade (tessellate_of j n) r vs ts ws → Promise j n r vs ts ws
-promised j n r vs ts ws f g = record {
-  outcome = g;
-  bounds = left_bounds boxed g;
-  closed = λ a s. subst (λ (x : State). Closed (mesh_of x)) left_is (demand3.closed j n (accepts a) f s);
-  proper = λ a. record {
-    none_twice = subst (λ (x : State). NoneTwice (mesh_of x)) left_is (demand3.none_twice j n (accepts a));
-    all_there = subst (λ (x : State). AllThere (mesh_of x)) left_is (demand3.all_there j n (accepts a));
-  };
-  closed_after = λ a s calls.
-      subst (λ (x : State). AllBring Closed calls x → Closed (mesh_of (after x calls))) left_is (demand3.closed_after j n (accepts a) f s calls);
-  proper_after = λ a calls.
-      subst (λ (x : State). AllBring Proper calls x → Proper (mesh_of (after x calls))) left_is (demand3.proper_after j n (accepts a) calls);
-}
-  where
-    boxed : (left j n).mesh.bounds ≡ bounding_box (mesh_of (left j n))
-    boxed = unfold tessellate_of in made_bounds (refusal_of j n) (final_mesh j) n
-
-    accepts : r.refusal ≡ Accepted → Accepts j n
-    accepts a = sym g.refusal ∙ a
-
-    left_is : left j n ≡ state r.mesh vs ts
-    left_is = left_as g

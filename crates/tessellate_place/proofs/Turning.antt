@@ -7,7 +7,7 @@ use lib.Ieee.{Float, binary64, lt, div, of_bits}
 use Rattle.mesh_balance_spec.specs.Soup.{flip_tri}
 use Rattle.mesh_spec.specs.Mesh.{Mesh, flip}
 use Rattle.mesh_spec.specs.Closed.{AllThere}
-use Rattle.mesh_spec.specs.ProperLaws.{flip_all_there}
+use Rattle.mesh_spec.proofs.ProperLawsHeld.{flip_all_there}
 use Rattle.mesh_spec.specs.Measures.{signed_volume, sum_of, volume_term}
 use Rattle.mesh_check.specs.State.{record_of, State, state, mesh_of, stored, Sound}
 use Rattle.mesh_check.specs.Places.{Recorded}

@@ -40,44 +40,9 @@ module _ (j : Job) where
   unfolding welded_mesh solid_mesh
   welded_is = refl
 
-  places_same : (n : Lent) → no_room (welded_mesh j) n.vertices n.triangles ≡ no_room (from_parts (job_parts j)) n.vertices n.triangles
+  pub places_same : (n : Lent) → no_room (welded_mesh j) n.vertices n.triangles ≡ no_room (from_parts (job_parts j)) n.vertices n.triangles
   unfolding no_room
   places_same n =
       let c = outward_counts (is_rot_poly j.shape) (from_parts (job_parts j)) in
       (λ i. ltb (counted_places n.vertices) (length (welded_is i).vertices) || ltb (counted_places n.triangles) (length (welded_is i).triangles))
       ∙ (λ i. ltb (counted_places n.vertices) (c.0 i) || ltb (counted_places n.triangles) (c.1 i))
-
-module _ (j : Job) (n : Lent) where
-  -- the checks from the soup's on
-  abbrev later : Bool → Bool → Refusal
-  later soup places = cond soup PointNotFinite (cond places NoRoom (cond (bad_vertex j) PointNotFinite Accepted))
-
-  by_tests : (work : Bool) (drawing : Refusal) → short_work n.vertices n.work ≡ work → job_refusal j ≡ drawing
-      → refusal_of j n ≡ cond work ShortWork (or_else drawing (later (bad_soup j) (no_room (welded_mesh j) n.vertices n.triangles)))
-  unfolding refusal_of
-  by_tests work drawing a b = λ i. cond (a i) ShortWork (or_else (b i) (later (bad_soup j) (no_room (welded_mesh j) n.vertices n.triangles)))
-
-  -- 6
-  pub at_work : short_work n.vertices n.work ≡ true → ShortWork ≡ refusal_of j n
-  at_work a = sym (by_tests true (job_refusal j) a refl)
-
-  -- 3, 4, 1 or 2
-  pub at_drawing : short_work n.vertices n.work ≡ false → is_accepted (job_refusal j) ≡ false → job_refusal j ≡ refusal_of j n
-  unfolding or_else
-  at_drawing a b = sym (by_tests false (job_refusal j) a refl ∙ rw b)
-
-  -- after them: what is due of the parts, then 5 over the vertices under the operations
-  pub at_parts : short_work n.vertices n.work ≡ false → job_refusal j ≡ Accepted
-      → or_else (parts_refusal (job_parts j) n) (cond (bad_vertex j) PointNotFinite Accepted) ≡ refusal_of j n
-  unfolding or_else parts_refusal bad_soup
-  at_parts a b =
-      sym
-      (by_tests false Accepted a b
-      ∙ (λ i. later (not (parts_finite (job_parts j))) (places_same j n i))
-      ∙ chosen (not (parts_finite (job_parts j))) (no_room (from_parts (job_parts j)) n.vertices n.triangles)
-      (cond (bad_vertex j) PointNotFinite Accepted))
-    where
-      chosen : (b c : Bool) (z : Refusal) → cond b PointNotFinite (cond c NoRoom z) ≡ or_else (cond b PointNotFinite (cond c NoRoom Accepted)) z
-      chosen true c z = unfold or_else in refl
-      chosen false true z = unfold or_else in refl
-      chosen false false z = unfold or_else in refl

@@ -10,7 +10,7 @@ use Rattle.refusal.specs.declared.Refusal.TheVariants.{Accepted, PointNotFinite}
 use Rattle.refusal.specs.Accepted.{is_accepted, or_else}
 use Rattle.refusal.specs.Laws.{accepted_is}
 use Rattle.mesh_spec.specs.Mesh.{Mesh, from_parts}
-use Rattle.mesh_spec.specs.Parts.{from_parts_there}
+use Rattle.mesh_spec.proofs.PartsLaws.{from_parts_there}
 use Rattle.shape.specs.declared.CoordSystem.{CoordSystem}
 use Rattle.shape.specs.Drawing.{cylindrical, shape_cs}
 use Rattle.shape.specs.DrawingLaws.{accepted}
@@ -24,7 +24,8 @@ use Rattle.mesh_made.specs.Steps.{Makes, parts_refusal}
 use Rattle.mesh_made.proofs.Ending.{makes_as, makes_none}
 use Rattle.solid_spec.specs.Solid.{parts_of, outward_if}
 use Rattle.tessellate_spec.specs.Outcome.{Job, job_parts, welded_mesh, placed, final_mesh, job_refusal, bad_placed, bad_vertex, refusal_of}
-use Rattle.tessellate_spec.specs.OutcomeLaws.{welded_is, at_parts}
+use Rattle.tessellate_spec.specs.OutcomeLaws.{welded_is}
+use Rattle.tessellate_spec.proofs.OutcomeLawsHeld.{at_parts}
 use Rattle.tessellate_place.specs.Ends.{placed_refusal}
 use Rattle.tessellate_weld.specs.Steps.{Drawable, Drawn}
 

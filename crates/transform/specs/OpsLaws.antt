@@ -23,20 +23,8 @@ take_most ops count i l e = ⊎_elim all part (eq-or-lt_of_le {n = i} {m = 16} (
     part : i < 16 → take i ops ≡ take count ops
     part h = let same : i ≡ count = omega arith in ap (λ (k : ℕ). take k ops) same
 
-fold_from_one_more : (degrees : Bool) (acc : Mat4) (ops : List TransformOp) (op : TransformOp)
+pub fold_from_one_more : (degrees : Bool) (acc : Mat4) (ops : List TransformOp) (op : TransformOp)
     → fold_from degrees acc (ops ++ (op ∷ [])) ≡ product (op_matrix degrees op) (fold_from degrees acc ops)
 unfolding fold_from
 fold_from_one_more degrees acc [] op = refl
 fold_from_one_more degrees acc (o ∷ ops) op = fold_from_one_more degrees (product (op_matrix degrees o) acc) ops op
-
-module _ (ops : List TransformOp) (i : ℕ) (d : TransformOp) (h : i < length ops) where
-  -- the newest operation multiplies from the left
-  pub folded_one_more : (degrees : Bool) {acc m r : Mat4} → acc ≡ folded degrees (take i ops) → m ≡ op_matrix degrees (get_or ops i d)
-      → r ≡ product m acc → r ≡ folded degrees (take (i + 1) ops)
-  unfolding folded
-  folded_one_more degrees e f g =
-      g ∙ ap₂ product f e
-      ∙ sym (ap (folded degrees) (take_one_more ops i d h) ∙ fold_from_one_more degrees identity (take i ops) (get_or ops i d))
-
-  pub every_one_more : (f : TransformOp → Bool) {a b : Bool} → a ≡ every f (take i ops) → b ≡ f (get_or ops i d) → (a && b) ≡ every f (take (i + 1) ops)
-  every_one_more f e g = ap₂ ◌&&◌ e g ∙ sym (ap (every f) (take_one_more ops i d h) ∙ every_after f (take i ops) (get_or ops i d))

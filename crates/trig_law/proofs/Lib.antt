@@ -7,3 +7,4 @@ pub mod Fractions
 pub mod Sums
 pub mod Reduced
 pub mod Near
+pub mod ExamplesLaws

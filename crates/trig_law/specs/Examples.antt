@@ -17,7 +17,7 @@ abbrev halves : ℤ → SignedFraction
 halves n = record { num = n; den = 2 }
 
 -- 1/2 − 1/48 + 1/3840
-sine : Is (series 3 1 (halves (pos 1))) (pos 1841) 3840
+pub sine : Is (series 3 1 (halves (pos 1))) (pos 1841) 3840
 unfolding series pow one factorial
 sine = refl
 
@@ -26,7 +26,7 @@ unfolding series pow one factorial
 minus_sine = refl
 
 -- 1 − 1/8 + 1/384
-cosine : Is (series 3 0 (halves (negsuc 0))) (pos 337) 384
+pub cosine : Is (series 3 0 (halves (negsuc 0))) (pos 337) 384
 unfolding series pow one factorial
 cosine = refl
 
@@ -47,15 +47,6 @@ past_the_end i = i.high
 not_a_number : InRange nan → ⊥
 unfolding le
 not_a_number i = i.high
-
--- ---- sine and cosine of 0.5 and of −0.75 lie within 2 ^ -40 of their series
-half : NearSeries 40 (of_bits binary64 0x3FE0000000000000) (sin_cos (of_bits binary64 0x3FE0000000000000))
-unfolding sin_cos of_bits mul add sub neg div of_int series pow one factorial
-half = record { sine = record { is_finite = tt; near = lit≤ tt }; cosine = record { is_finite = tt; near = lit≤ tt } }
-
-minus_three_quarters : NearSeries 40 (of_bits binary64 0xBFE8000000000000) (sin_cos (of_bits binary64 0xBFE8000000000000))
-unfolding sin_cos of_bits mul add sub neg div of_int series pow one factorial
-minus_three_quarters = record { sine = record { is_finite = tt; near = lit≤ tt }; cosine = record { is_finite = tt; near = lit≤ tt } }
 
 -- ---- the sine of 0.75 does not lie within 2 ^ -60 of its series
 abbrev off_at : Float → SignedFraction

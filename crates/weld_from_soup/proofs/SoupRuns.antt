@@ -8,7 +8,7 @@ use lib.Ieee.{Float}
 use Rattle.refusal.specs.declared.Refusal.{Refusal}
 use Rattle.refusal.specs.declared.Refusal.TheVariants.{BadList, ShortWork}
 use Rattle.mesh_balance_spec.specs.Buffer.{upto_more}
-use Rattle.mesh_spec.specs.Parts.{from_parts_one}
+use Rattle.mesh_spec.proofs.PartsLaws.{from_parts_one}
 use Rattle.mesh_made.specs.Made.{Lent, lent, short_work}
 use Rattle.mesh_made.specs.Steps.{Makes, parts_refusal, judged}
 use Rattle.mesh_made.proofs.Ending.{makes_as}

@@ -5,11 +5,12 @@ use Rattle.refusal.specs.declared.Refusal.TheVariants.{Accepted}
 use Rattle.mesh_spec.specs.Mesh.{from_soup}
 use Rattle.mesh_spec.specs.Measures.{bounding_box}
 use Rattle.mesh_spec.specs.Closed.{Proper}
-use Rattle.mesh_spec.specs.Welded.{from_soup_proper}
+use Rattle.mesh_spec.proofs.WeldedLaws.{from_soup_proper}
 use Rattle.mesh_check.specs.State.{State, state, mesh_of}
 use Rattle.mesh_made.specs.declared.Made.{Made}
 use Rattle.mesh_made.specs.Made.{Lent, GivesMade}
-use Rattle.mesh_made.specs.MadeLaws.{made_bounds, made_holds, left_as, left_bounds}
+use Rattle.mesh_made.specs.MadeLaws.{left_as, left_bounds}
+use Rattle.mesh_made.proofs.MadeLawsHeld.{made_bounds, made_holds}
 use Rattle.weld_from_soup.specs.Soups.{soup_of, soup_refusal, from_soup_of}
 
 -- the answer r and the slices' final lists of a call with the soup l and slices of the lengths n

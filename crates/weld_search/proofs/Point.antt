@@ -14,7 +14,8 @@ use Rattle.mesh_balance_spec.specs.Soup.{Tri, map_tri}
 use Rattle.mesh_spec.specs.Mesh.{Mesh, same_point, first_sight, append}
 use Rattle.mesh_spec.specs.Slices.{flat_v, vertex_at}
 use Rattle.mesh_spec.specs.SliceLaws.{flatV_append}
-use Rattle.mesh_spec.specs.WeldLaws.{sight_at, sight_none, with_seen, with_new, with_longer}
+use Rattle.mesh_spec.specs.WeldLaws.{with_seen, with_new, with_longer}
+use Rattle.mesh_spec.proofs.WeldLawsHeld.{sight_at, sight_none}
 use Rattle.weld_hash.specs.declared.Found.TheVariants.{Missing}
 use Rattle.weld.specs.declared.Welder.{Welder}
 use Rattle.weld.specs.declared.Foreseen.{Foreseen}

@@ -9,7 +9,7 @@ use Rattle.refusal.specs.Laws.{accepted_is}
 use Rattle.mesh_made.specs.Made.{lent}
 use Rattle.mesh_made.proofs.Ending.{makes_as, makes_is, makes_refused}
 use Rattle.tessellate_spec.specs.Outcome.{job, final_mesh, job_refusal}
-use Rattle.tessellate_spec.specs.OutcomeLaws.{at_work, at_drawing}
+use Rattle.tessellate_spec.proofs.OutcomeLawsHeld.{at_work, at_drawing}
 use Rattle.tessellate.proofs.make.Goals as goal
 
 pub returns-then-short : goal.returns-then-short

@@ -5,7 +5,7 @@ use borrow.Author.Rules.{rules}
 use Rattle.mesh_made.specs.Made.{lent, Ending, made_as}
 use Rattle.mesh_made.proofs.Ending.{lent_same, gives_as, makes_lie, makes_gives}
 use Rattle.tessellate_spec.specs.Outcome.{job, final_mesh, refusal_of, tessellate_of}
-use Rattle.tessellate_law.specs.Promise.{promised}
+use Rattle.tessellate_law.proofs.PromiseLaws.{promised}
 use Rattle.tessellate.proofs.Floats.{solid_fits}
 use Rattle.tessellate.proofs.tessellate.Goals as goal
 

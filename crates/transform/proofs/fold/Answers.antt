@@ -6,7 +6,8 @@ use native.Mathlib.Omega.{arith}
 use borrow.Author.Rules.{rules}
 use lib.ListN.{length, take}
 use Rattle.transform.specs.Ops.{fold_from, folded}
-use Rattle.transform.specs.OpsLaws.{take_most, folded_one_more}
+use Rattle.transform.specs.OpsLaws.{take_most}
+use Rattle.transform.proofs.OpsLawsHeld.{folded_one_more}
 use Rattle.transform.proofs.fold.Goals as goal
 
 pub loop-i-init : goal.loop-i-init

@@ -5,7 +5,8 @@ use native.Mathlib.Omega.{arith}
 use borrow.Author.Rules.{rules}
 use lib.ListN.{length, take}
 use Rattle.transform.specs.Ops.{fold_from, folded}
-use Rattle.transform.specs.OpsLaws.{take_most, folded_one_more}
+use Rattle.transform.specs.OpsLaws.{take_most}
+use Rattle.transform.proofs.OpsLawsHeld.{folded_one_more}
 use Rattle.transform.proofs.fold.Given as goal
 
 abbrev pub invariant-loop-i : goal.invariant-loop-i

@@ -6,7 +6,8 @@ use borrow.Author.Rules.{rules}
 use lib.ListN.{length, take}
 use Rattle.slice.specs.Every.{every}
 use Rattle.transform.specs.Checks.{op_angle_within, ops_angles_within}
-use Rattle.transform.specs.OpsLaws.{take_most, every_one_more}
+use Rattle.transform.specs.OpsLaws.{take_most}
+use Rattle.transform.proofs.OpsLawsHeld.{every_one_more}
 use Rattle.transform_angles.proofs.ops_angles_within.Given as goal
 
 abbrev pub invariant-loop-i : goal.invariant-loop-i

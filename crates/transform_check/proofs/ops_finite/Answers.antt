@@ -7,7 +7,8 @@ use borrow.Author.Rules.{rules}
 use lib.ListN.{length, take}
 use Rattle.slice.specs.Every.{every}
 use Rattle.transform.specs.Checks.{op_finite, ops_finite}
-use Rattle.transform.specs.OpsLaws.{take_most, every_one_more}
+use Rattle.transform.specs.OpsLaws.{take_most}
+use Rattle.transform.proofs.OpsLawsHeld.{every_one_more}
 use Rattle.transform_check.proofs.ops_finite.Goals as goal
 
 pub loop-i-init : goal.loop-i-init

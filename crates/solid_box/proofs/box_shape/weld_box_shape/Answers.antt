@@ -1,6 +1,6 @@
 -- `solid_box::box_shape::weld_box_shape` meets its contract. Assumes nothing.
 use borrow.Author.Tests.{not-true, not-false}
-use Rattle.shape_arc.specs.ArcLaws.{arc_few}
+use Rattle.shape_arc.proofs.ArcLawsHeld.{arc_few}
 use Rattle.solid_box.proofs.BoxRuns.{cylindrical_runs, shape_turned, shape_straight}
 use borrow.Author.Rules.{rules}
 use Rattle.solid_box.proofs.box_shape.weld_box_shape.Goals as goal

@@ -4,7 +4,7 @@ use native.Mathlib.Omega.{arith}
 use mathlib.Core.Path.{ap, ◌∙◌}
 use Rattle.shape_arc.specs.Arc.{arc_segments, is_full}
 use Rattle.surface.proofs.Tables.{filled_less}
-use Rattle.shape_arc.specs.ArcLaws.{arc_few, arc_some}
+use Rattle.shape_arc.proofs.ArcLawsHeld.{arc_few, arc_some}
 use Rattle.solid_outline.proofs.OutlineRuns.{rotated_within, rotated_none, rotated_runs}
 use Rattle.solid_outline.proofs.outlines.weld_rotated_from.Goals as goal
 

@@ -1,0 +1,3 @@
+-- Theorems on the definitions of tessellate_law.
+pub mod Demand3Laws
+pub mod PromiseLaws

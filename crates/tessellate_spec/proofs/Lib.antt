@@ -1,0 +1,2 @@
+-- Theorems on the definitions of tessellate_spec.
+pub mod OutcomeLawsHeld

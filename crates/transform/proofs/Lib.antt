@@ -1,0 +1,2 @@
+-- Theorems on the definitions of transform.
+pub mod OpsLawsHeld
