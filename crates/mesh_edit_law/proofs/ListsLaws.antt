@@ -1,6 +1,7 @@
 -- docs/SCOPE.md, "Lists of calls": what holds of a mesh and of its record's box after any list of appends, flips and transforms, refused ones included.
 -- The calls are those that the contracts of `append`, `flip` and `transform` cite. Assumes nothing.
 -- Counts beyond the slices need no exception, since check 8 refuses then.
+use Rattle.std.proofs.Common.{[]}
 use Rattle.std.specs.Prelude.{◌≡◌, Bool, cond, List, ◌∷◌, ℕ, take, eqb}
 use Rattle.std.proofs.Math.Path.{refl}
 use Rattle.std.proofs.Common.{sym, subst}

@@ -76,9 +76,9 @@ pub record KeptByLists : Type 0 where
 -- ---- the proof
 -- the three edits of a mesh keep a property
 pub record KeptByEdits (P : Mesh → Type 0) : Type 0 where
-  appended : (m o : Mesh) → P m → P o → P (append m o)
-  flipped : (m : Mesh) → P m → P (flip m)
-  transformed : (a : Mat4) (m : Mesh) → P m → P (transform a m)
+  pub appended : (m o : Mesh) → P m → P o → P (append m o)
+  pub flipped : (m : Mesh) → P m → P (flip m)
+  pub transformed : (a : Mat4) (m : Mesh) → P m → P (transform a m)
 
 -- ---- the record's box
 -- a stored mesh has its own box

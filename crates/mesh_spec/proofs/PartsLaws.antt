@@ -1,4 +1,5 @@
 -- A soup, and the parts of a mesh that are welded each by itself. Definitions, and their laws for lists that are joined. Assumes nothing.
+use Rattle.std.proofs.Common.{[]}
 use Rattle.std.specs.Prelude.{◌≡◌, ◌&&◌, List, ◌∷◌, ◌++◌}
 use Rattle.std.proofs.Common.{◌∙◌}
 use Rattle.mesh_spec.specs.Mesh.{Mesh, no_mesh, append, from_soup, append_parts, from_parts}

@@ -1,4 +1,5 @@
 -- `append`, `flip` and `transform` keep `NoneTwice` and `AllThere`: three different vertices a triangle, and each of them there. Assumes nothing.
+use Rattle.std.proofs.Common.{[]}
 use Rattle.std.specs.Prelude.{◌≡◌, Bool, true, false, ◌&&◌, cond, ℕ, ◌+◌, ◌≤◌, ◌<◌, length, T, ltb}
 use Rattle.std.proofs.Common.{arith, length-append, ltb→lt, lt→ltb}
 use mathlib.Core.List.{List, ◌∷◌, ◌++◌, map}

@@ -1,4 +1,5 @@
 -- Laws of first sight, of welding and of append, on the definitions of Mesh.antt. Assumes nothing.
+use Rattle.std.proofs.Common.{[]}
 use Rattle.std.specs.Prelude.{◌≡◌, Bool, true, false, ◌&&◌, cond, length, get_or}
 use Rattle.std.proofs.Math.Path.{refl}
 use Rattle.std.proofs.Common.{sym, ap, ◌∙◌, ⊎_elim, eq-or-lt_of_le, le_of_suc-le-suc, not-suc-le-zero, arith, length-append}

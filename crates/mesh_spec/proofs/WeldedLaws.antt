@@ -1,4 +1,5 @@
 -- What `from_soup` gives: a proper mesh for every soup, and a closed one for a finite soup that is balanced after `+ 0.0`. Assumes nothing.
+use Rattle.std.proofs.Common.{[]}
 use Rattle.std.specs.Prelude.{◌≡◌, ◌⊎◌, Bool, ◌&&◌, cond, List, ◌∷◌, ◌++◌, map, ℕ, ◌≤◌, ◌<◌, length, T}
 use Rattle.std.proofs.Common.{sym, ap, ◌∙◌, subst, append-nil, arith}
 use Rattle.std.proofs.Math.Bool.{true, false}

@@ -18,8 +18,8 @@ use Rattle.mesh_spec.specs.SelfSame.{same_self}
 -- ---- closed
 -- us is the front of vs
 pub record Front (us vs : List Vec3) : Type 0 where
-  rest : List Vec3
-  splits : vs ≡ us ++ rest
+  pub rest : List Vec3
+  pub splits : vs ≡ us ++ rest
 
 pub front_then : {us vs ws : List Vec3} → Front us vs → Front vs ws → Front us ws
 front_then {us} f g = record {

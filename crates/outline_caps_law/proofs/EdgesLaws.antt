@@ -1,5 +1,6 @@
 -- Weights of directed edges (the crate mesh_balance_spec), summed over triangles in a list of numbers and around a list of corners; and a corner cut out of a
 -- cycle. Assumes nothing.
+use Rattle.std.proofs.Common.{[]}
 use Rattle.std.specs.Prelude.{ℕ, ◌+◌, ◌-◌, ◌*◌, ◌%◌, ◌<◌, ◌≤◌, ◌≡◌, List, ◌∷◌, ◌++◌, length}
 use Rattle.std.proofs.Common.{◌∙◌, not-suc-le-zero, le_of_suc-le-suc}
 use Rattle.mesh_balance_spec.specs.Soup.{Weight, rev}

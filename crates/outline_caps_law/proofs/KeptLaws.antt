@@ -1,5 +1,6 @@
 -- From a state of the clipper to a later one: the triangles given and those that can still come are no more than before; and where they are as many, each
 -- directed edge outnumbers its reverse by as much as before, over the triangles given and the cycle of the corners that remain. Assumes nothing.
+use Rattle.std.proofs.Common.{[]}
 use Rattle.std.specs.Prelude.{ℕ, zero, suc, ◌+◌, ◌-◌, ◌*◌, ◌<◌, ◌≤◌, ◌≡◌, refl, Bool, true, false, cond, ◌&&◌, List, ◌∷◌, ◌++◌, length, get_or, take, eqb, ltb, Float}
 use Rattle.std.proofs.Common.{arith, length-append, ltb-true, eqb-true}
 use Rattle.std.specs.Float.Ieee.{lt}

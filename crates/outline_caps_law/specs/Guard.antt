@@ -47,8 +47,8 @@ pass_spent v e s h3 = pass_spent_ear v e s (first_ear v e s.idx) refl h3
 
 -- after enough passes three corners remain at most, and n - 3 were removed singly at most
 pub record Done (n : ℕ) (r : Clipping) : Type 0 where
-  short : length r.idx ≤ 3
-  few : r.removed + 3 ≤ n
+  pub short : length r.idx ≤ 3
+  pub few : r.removed + 3 ≤ n
 
 pub done_by : (n : ℕ) (s r : Clipping) (b : Bool) → ltb 3 (length s.idx) ≡ b → s.removed + 3 ≤ n → (3 < length s.idx → Done n r) → Done n (cond b r s)
 done_by n s r true h m k = k (ltb-true _ _ h)
