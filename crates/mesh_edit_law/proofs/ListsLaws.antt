@@ -21,7 +21,7 @@ use Rattle.mesh_check.specs.StateLaws.{mesh_stored}
 use Rattle.mesh_check_append.specs.Append.{append_refusal}
 use Rattle.mesh_check_transform.specs.Transform.{transformed, transform_refusal}
 use Rattle.mesh_edit_law.specs.Edits.{append_of, flip_of, transform_of}
-use Rattle.mesh_edit_law.specs.Lists.{AllBring, Brings, Call, Kept, KeptByEdits, after, outcome, right_stored}
+use Rattle.mesh_edit_law.specs.Lists.{Call, Append, Flip, Transform, AllBring, Brings, Kept, KeptByEdits, after, outcome, right_stored}
 
 -- a call keeps a property of the state where the state after its edit has it
 module _ (Q : State → Type 0) (s : State) (start : Q s) where
