@@ -52,11 +52,11 @@ pub record Demand3 : Type 0 where
 -- ---- what the mesh of a job keeps
 
 -- a property that the empty mesh has and that the three edits keep
-record KeptByDrawing (P : Mesh → Type 0) : Type 0 where
-  empty : P no_mesh
-  appended : (m o : Mesh) → P m → P o → P (append m o)
-  flipped : (m : Mesh) → P m → P (flip m)
-  transformed : (a : Mat4) (m : Mesh) → P m → P (transform a m)
+pub record KeptByDrawing (P : Mesh → Type 0) : Type 0 where
+  pub empty : P no_mesh
+  pub appended : (m o : Mesh) → P m → P o → P (append m o)
+  pub flipped : (m : Mesh) → P m → P (flip m)
+  pub transformed : (a : Mat4) (m : Mesh) → P m → P (transform a m)
 
 module _ (P : Mesh → Type 0) (k : KeptByDrawing P) where
   appended_parts : (m : Mesh) (ps : List Soup) → P m → EachPart (λ s. P (from_soup s)) ps → P (append_parts m ps)
