@@ -43,7 +43,8 @@ returns-then-not-right c =
     let s = state a.mesh a.vertices.now a.triangles.now in
     let f = b.finite_box-found in
     let g : bad_mesh s ≡ false = sym b.bad_mesh.ensures ∙ b.if-bad_mesh.false in
-    let h = found_not_finite s f.result f.ensures false (ap not c.if-not-finite.false) in
+    let finite : f.result.finite ≡ true = cc in
+    let h = found_not_finite s f.result f.ensures false (ap not finite) in
     let w = found_bad_box s f.result f.ensures d.same_box-right.result true d.same_box-right.ensures (ap not c.if-not-right.true) in
     c.boxed_with-then-not-right.ensures ∙ refused_boxed BadMesh (check_of s) f.result.bounds (bounding_box (mesh_of s)) refl (check_bad_box s g h w)
 

@@ -1,5 +1,6 @@
 -- `replay_calls::agreement::agreed` meets its contract. Assumes nothing.
 use borrow.Author.Tests.{eq-eqb, ne_eqb}
+use Rattle.std.proofs.Common.{◌≡◌, arith}
 use Rattle.replay_calls.specs.Agreed.{agreed_of}
 use Rattle.replay_calls.proofs.agreement.agreed.Goals as goal
 
@@ -25,4 +26,7 @@ pub returns : goal.returns
 unfolding agreed_of
 returns c =
     let s = c.args in
-    simp (eq-eqb s.a s.b c.if-a-b.false, eq-eqb s.a s.c c.if-a-c.false, eq-eqb s.a s.d c.if-a-d.false)
+    let b : s.a ≡ s.b = omega arith in
+    let d : s.a ≡ s.c = omega arith in
+    let e : s.a ≡ s.d = omega arith in
+    simp (eq-eqb s.a s.b b, eq-eqb s.a s.c d, eq-eqb s.a s.d e)

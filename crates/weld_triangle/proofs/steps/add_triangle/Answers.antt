@@ -85,5 +85,5 @@ returns c =
     let s = c in
     rw c.with_face.ensures
     (triangle_new s.args.a s.args.b s.args.c s.args.w s.args.triangles.now s.requires.0 c.if-a-b.false
-    c.if-b-c.false c.if-a-c.false c.if-not-room.false
+    (λ e. omega arith) c.if-a-c.false c.if-not-room.false
     (omega (arith, c.if-counted_places-faces.false, c.counted_places.ensures)))
