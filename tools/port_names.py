@@ -1,7 +1,7 @@
 #!/usr/bin/env python3
 """Spells the definitions and lemmas of the repository in snake case, where the kit's own script leaves them.
 
-usage: tools/port_names.py [--list]     at the top of the repository, once, after /opt/rattle/port/port.py
+usage: tools/port_names.py [--list]     at the top of the repository, once, after port.py of the kit
 
 A name of specs/ or proofs/ that has a dash or a capital inside gets underscores: `isZero` and `is-zero` become `is_zero`. Types, facts and modules keep
 their capitals. Functions of src/, exported C names, strings, inputs and outputs keep their names. Where two names would fall together in a file, or one would
