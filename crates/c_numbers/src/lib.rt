@@ -7,7 +7,7 @@ ghost use Rattle.root.specs.Rounded.{Root};
 ghost use Rattle.trig_spec.specs.Trig.{sin_cos};
 ghost use Rattle.c_numbers.specs.Places.{place_of};
 
-use root_case::{RootCase, root_case};
+use root_case::root_case;
 
 #[unsafe(no_mangle)]
 pub extern "C" fn sizturga_sqrt(x: f64) -> f64
@@ -21,14 +21,7 @@ pub extern "C" fn sizturga_sqrt(x: f64) -> f64
 pub extern "C" fn sizturga_root_case(x: f64) -> u32
     ensures { result ≡ place_of (root_case x) }
 {
-    match root_case(x) {
-        RootCase::Zero => 0,
-        RootCase::NotFinite => 1,
-        RootCase::Negative => 2,
-        RootCase::Subnormal => 3,
-        RootCase::EvenExponent => 4,
-        RootCase::OddExponent => 5,
-    }
+    root_case(x) as u32
 }
 
 #[unsafe(no_mangle)]

@@ -1,2 +1,2 @@
 -- Laws that the proofs of the functions use.
-pub mod Told
+pub mod Telling

@@ -6,10 +6,9 @@ use Rattle.transform.specs.declared.TransformOp.TheVariants.{Translate, RotateOr
 use Rattle.transform.specs.Ops.{most_ops, no_ops}
 use Rattle.refusal.specs.Number.{number_of}
 use Rattle.shape.specs.declared.Shape.{Shape}
-use Rattle.shape.specs.declared.OwnSystem.TheVariants.{Inherited}
+use Rattle.std.specs.Prelude.{None}
 use Rattle.shape.specs.declared.CoordSystem.{CoordSystem}
-use Rattle.mesh_check.specs.declared.Boxed.{Boxed}
-use Rattle.mesh_check.specs.State.{record_of, State, state}
+use Rattle.mesh_check.specs.State.{record_of, State, state, Boxed}
 use Rattle.mesh_edit_law.specs.Outcome.{EditOutcome}
 use Rattle.mesh_made.specs.Made.{Lent, Ending}
 use Rattle.tessellate_spec.specs.Outcome.{job, tessellate_of}
@@ -21,7 +20,7 @@ at x y z = record { x = x; y = y; z = z }
 
 -- a shape in a coordinate system, without operations
 abbrev pub solid_in : CoordSystem → Shape → List Float → ℕ → ℕ → Lent → Ending
-solid_in system shape list segments rings = tessellate_of (job shape list Inherited system (record { segments = segments; sphere_rings = rings }) false no_ops 0)
+solid_in system shape list segments rings = tessellate_of (job shape list None system (record { segments = segments; sphere_rings = rings }) false no_ops 0)
 
 -- 16 operations, of which two count: a rotation about an axis through the origin, then a translation
 abbrev pub turn_then_move : Vec3 → Float → Vec3 → List TransformOp

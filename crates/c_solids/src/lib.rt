@@ -6,3 +6,4 @@ mod boxes;
 pub mod meshes;
 pub mod solids;
 pub mod soup;
+mod told;

@@ -5,8 +5,9 @@ ghost use Rattle.mesh_edit_law.specs.Edits.{append_of, flip_of, transform_of};
 ghost use Rattle.c_solids.specs.Answers.{given, TellsBox, Leaves, at, turn_then_move};
 
 use crate::boxes::{box_in, put_box};
+use crate::told::{bits, box_or_zeros, tell};
 use math::Vec3;
-use transform::TransformOp;
+use transform::{Operations, TransformOp};
 
 // The bits of the area.
 #[unsafe(no_mangle)]
@@ -19,12 +20,8 @@ pub extern "C" fn sizturga_bench_area(
 ) -> u64
     ensures { result ≡ (area_of (given vertex_count triangle_count bounds.now vertices.now triangles.now)).bits }
 {
-    let m = mesh::area(
-        mesh_check::record_of(vertex_count, triangle_count, box_in(bounds)),
-        vertices,
-        triangles,
-    );
-    m.bits
+    let m = mesh_check::record_of(vertex_count, triangle_count, box_in(bounds));
+    bits(mesh::area(m, vertices, triangles))
 }
 
 // The bits of the signed volume.
@@ -38,12 +35,8 @@ pub extern "C" fn sizturga_bench_signed_volume(
 ) -> u64
     ensures { result ≡ (signed_volume_of (given vertex_count triangle_count bounds.now vertices.now triangles.now)).bits }
 {
-    let m = mesh::signed_volume(
-        mesh_check::record_of(vertex_count, triangle_count, box_in(bounds)),
-        vertices,
-        triangles,
-    );
-    m.bits
+    let m = mesh_check::record_of(vertex_count, triangle_count, box_in(bounds));
+    bits(mesh::signed_volume(m, vertices, triangles))
 }
 
 // The box of the vertices, as six floats to out, zeros where the mesh is refused. The refusal is answered by its number.
@@ -59,15 +52,10 @@ pub extern "C" fn sizturga_bench_bounding_box(
     ensures { TellsBox
         (bounding_box_of (given vertex_count triangle_count bounds.now vertices.now triangles.now)) result out.new }
 {
-    let m = mesh::bounding_box(
-        mesh_check::record_of(vertex_count, triangle_count, box_in(bounds)),
-        vertices,
-        triangles,
-    );
-    let why = m.refusal;
-    let b = m.bounds;
-    put_box(out, b);
-    refusal::number(why)
+    let m = mesh_check::record_of(vertex_count, triangle_count, box_in(bounds));
+    let boxed = mesh::bounding_box(m, vertices, triangles);
+    put_box(out, box_or_zeros(boxed));
+    refusal::number(boxed)
 }
 
 #[unsafe(no_mangle)]
@@ -88,8 +76,9 @@ pub extern "C" fn sizturga_bench_append(
         (given other_vertex_count other_triangle_count other_bounds.now other_vertices.now other_triangles.now))
         result vertex_count.new triangle_count.new bounds.new vertices.new triangles.new }
 {
-    let e = mesh::append(
-        mesh_check::record_of(*vertex_count, *triangle_count, box_in(bounds)),
+    let m = mesh_check::record_of(*vertex_count, *triangle_count, box_in(bounds));
+    let made = mesh::append(
+        m,
         vertices,
         triangles,
         mesh_check::record_of(
@@ -100,13 +89,7 @@ pub extern "C" fn sizturga_bench_append(
         other_vertices,
         other_triangles,
     );
-    let after = e.mesh;
-    let why = e.refusal;
-    let b = after.bounds;
-    *vertex_count = after.vertices;
-    *triangle_count = after.triangles;
-    put_box(bounds, b);
-    refusal::number(why)
+    tell(made, m, vertex_count, triangle_count, bounds)
 }
 
 #[unsafe(no_mangle)]
@@ -121,18 +104,9 @@ pub extern "C" fn sizturga_bench_flip(
         (flip_of (given vertex_count.old triangle_count.old bounds.old vertices.now triangles.old))
         result vertex_count.new triangle_count.new bounds.new vertices.now triangles.new }
 {
-    let e = mesh::flip(
-        mesh_check::record_of(*vertex_count, *triangle_count, box_in(bounds)),
-        vertices,
-        triangles,
-    );
-    let after = e.mesh;
-    let why = e.refusal;
-    let b = after.bounds;
-    *vertex_count = after.vertices;
-    *triangle_count = after.triangles;
-    put_box(bounds, b);
-    refusal::number(why)
+    let m = mesh_check::record_of(*vertex_count, *triangle_count, box_in(bounds));
+    let made = mesh::flip(m, vertices, triangles);
+    tell(made, m, vertex_count, triangle_count, bounds)
 }
 
 // A rotation by an angle in radians about an axis through the origin, then a translation.
@@ -166,19 +140,12 @@ pub extern "C" fn sizturga_bench_transform(
         },
         angle,
     );
-    let e = mesh::transform(
-        mesh_check::record_of(*vertex_count, *triangle_count, box_in(bounds)),
-        vertices,
-        triangles,
+    let m = mesh_check::record_of(*vertex_count, *triangle_count, box_in(bounds));
+    let operations = Operations {
         ops,
-        2,
-        false,
-    );
-    let after = e.mesh;
-    let why = e.refusal;
-    let b = after.bounds;
-    *vertex_count = after.vertices;
-    *triangle_count = after.triangles;
-    put_box(bounds, b);
-    refusal::number(why)
+        count: 2,
+        degrees: false,
+    };
+    let made = mesh::transform(m, vertices, triangles, &operations);
+    tell(made, m, vertex_count, triangle_count, bounds)
 }

@@ -4,8 +4,8 @@ ghost use Rattle.shape_fields.specs.Fields.{shape_of};
 ghost use Rattle.replay_head.specs.Shapes.{system_of};
 ghost use Rattle.c_solids.specs.Answers.{Tells, solid_in};
 
-use shape::{OwnSystem, TessellationOptions};
-use transform::TransformOp;
+use shape::{Drawing, TessellationOptions};
+use transform::{Operations, TransformOp};
 
 // The mesh of a shape in the lent slices, its counts and its box. The shape is that of `shape_fields`, and `system` 1 is the cylindrical one.
 #[unsafe(no_mangle)]
@@ -30,31 +30,27 @@ pub extern "C" fn sizturga_bench_solid(
         (lent vertices.old triangles.old work.old))
         result vertex_count.new triangle_count.new bounds.new vertices.new triangles.new work.new }
 {
-    let none = TransformOp::Scale(1.0);
-    let shape = shape_fields::shape_of(kind, norm_dir, rot_axis_dir, numbers);
-    let default = replay_head::system(system);
-    let options = TessellationOptions {
-        segments,
-        sphere_rings: rings,
-    };
-    let t = tessellate::tessellate(
-        shape,
+    let d = Drawing {
+        shape: shape_fields::shape_of(kind, norm_dir, rot_axis_dir, numbers),
         list,
-        OwnSystem::Inherited,
-        default,
-        options,
-        false,
-        [none; 16],
-        0,
-        vertices,
-        triangles,
-        work,
-    );
-    let made = t.mesh;
-    let why = t.refusal;
-    let b = made.bounds;
-    *vertex_count = made.vertices;
-    *triangle_count = made.triangles;
-    crate::boxes::put_box(bounds, b);
-    refusal::number(why)
+        own: None,
+        default: replay_head::system(system),
+        options: TessellationOptions {
+            segments,
+            sphere_rings: rings,
+        },
+        operations: Operations {
+            ops: [TransformOp::Scale(1.0); 16],
+            count: 0,
+            degrees: false,
+        },
+    };
+    let made = tessellate::tessellate(&d, vertices, triangles, work);
+    crate::told::tell(
+        made,
+        mesh_check::empty_record(),
+        vertex_count,
+        triangle_count,
+        bounds,
+    )
 }

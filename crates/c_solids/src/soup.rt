@@ -18,12 +18,12 @@ pub extern "C" fn sizturga_bench_from_soup(
         (from_soup_of soup.now (lent vertices.old triangles.old work.old))
         result vertex_count.new triangle_count.new bounds.new vertices.new triangles.new work.new }
 {
-    let t = weld_from_soup::from_soup(soup, vertices, triangles, work);
-    let made = t.mesh;
-    let why = t.refusal;
-    let b = made.bounds;
-    *vertex_count = made.vertices;
-    *triangle_count = made.triangles;
-    crate::boxes::put_box(bounds, b);
-    refusal::number(why)
+    let made = weld_from_soup::from_soup(soup, vertices, triangles, work);
+    crate::told::tell(
+        made,
+        mesh_check::empty_record(),
+        vertex_count,
+        triangle_count,
+        bounds,
+    )
 }

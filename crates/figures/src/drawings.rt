@@ -1,5 +1,4 @@
 // The solids with their counts.
-use crate::drawn::Drawn;
 use crate::{drawn, records, written};
 use figures_lines::{put_border, put_first, put_measures};
 use figures_quarters::put_quarters;
@@ -7,6 +6,7 @@ use figures_text::put_counts;
 use figures_titles::{put_box, put_cylinder, put_shell, put_sphere};
 use math::Vec3;
 use mesh::TriMesh;
+use refusal::Refusal;
 use shape::Shape;
 
 pub(crate) fn at(x: f64, y: f64, z: f64) -> Vec3 {
@@ -22,10 +22,15 @@ fn is_closed(m: TriMesh, t: &[u32]) -> bool {
     mesh_closed::closed(m.vertices, &t[..3 * k])
 }
 
+// The record of what was drawn: the empty one where it was refused.
+fn record_of(made: Result<TriMesh, Refusal>) -> TriMesh {
+    made.unwrap_or(mesh_check::empty_record())
+}
+
 // The counts of a mesh and whether it is closed, after a title of n bytes that the line begins with.
-fn closed_or_open(line: &mut [u8], n: usize, d: Drawn, t: &[u32]) {
-    let m = d.mesh;
-    let mut to = put_counts(line, n, d.number, m);
+fn closed_or_open(line: &mut [u8], n: usize, made: Result<TriMesh, Refusal>, t: &[u32]) {
+    let m = record_of(made);
+    let mut to = put_counts(line, n, refusal::number(made), m);
     to = put_border(line, to, is_closed(m, t));
     written::write(line, to);
 }
@@ -55,9 +60,9 @@ fn box_to(stop: Vec3, begin: bool) {
     let mut v = [0.0; 24];
     let mut t = [0u32; 36];
     let n = put_box(&mut line, 0, stop);
-    let d = drawn::draw(shape, 32, 16, &mut v, &mut t);
-    let m = d.mesh;
-    closed_or_open(&mut line, n, d, &t);
+    let made = drawn::draw(shape, 32, 16, &mut v, &mut t);
+    let m = record_of(made);
+    closed_or_open(&mut line, n, made, &t);
     measures(m, &v, &t);
     if begin {
         first(&v, &t);
@@ -102,8 +107,8 @@ fn upright(radius: f64) -> Shape {
 fn cylinder(radius: f64, v: &mut [f64], t: &mut [u32]) {
     let mut line = [0u8; 160];
     let n = put_cylinder(&mut line, 0, radius, 3);
-    let d = drawn::draw(upright(radius), 3, 2, v, t);
-    closed_or_open(&mut line, n, d, t);
+    let made = drawn::draw(upright(radius), 3, 2, v, t);
+    closed_or_open(&mut line, n, made, t);
 }
 
 fn shell(width: f64, v: &mut [f64], t: &mut [u32]) {
@@ -115,8 +120,8 @@ fn shell(width: f64, v: &mut [f64], t: &mut [u32]) {
     };
     let mut line = [0u8; 160];
     let n = put_shell(&mut line, 0, width);
-    let d = drawn::draw(shape, 3, 2, v, t);
-    closed_or_open(&mut line, n, d, t);
+    let made = drawn::draw(shape, 3, 2, v, t);
+    closed_or_open(&mut line, n, made, t);
 }
 
 // Writes whether the mesh in v and t is the cylinder of radius 2.5.
@@ -145,8 +150,7 @@ fn quarters(segments: usize) {
     let mut v = [0.0; 270];
     let mut t = [0u32; 528];
     let mut n = put_cylinder(&mut line, 0, 1.0, segments);
-    let d = drawn::draw(upright(1.0), segments, 2, &mut v, &mut t);
-    let m = d.mesh;
+    let m = record_of(drawn::draw(upright(1.0), segments, 2, &mut v, &mut t));
     n = put_quarters(&mut line, n, &v, m.vertices);
     written::write(&line, n);
 }

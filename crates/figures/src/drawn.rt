@@ -1,85 +1,88 @@
 // Runs tessellate.
 use mesh::TriMesh;
-use shape::{CoordSystem, OwnSystem, Shape, TessellationOptions};
-use transform::TransformOp;
+use refusal::Refusal;
+use shape::{CoordSystem, Drawing, Shape, TessellationOptions};
+use transform::{Operations, TransformOp};
 
-// The refusal by its number, which is 0 where there is none, and the mesh.
-#[derive(Clone, Copy)]
-pub(crate) struct Drawn {
-    pub number: u32,
-    pub mesh: TriMesh,
+// The first `count` of 16 operations, each of them op, with an angle in radians.
+pub(crate) fn operations(op: TransformOp, count: usize) -> Operations {
+    Operations {
+        ops: [op; 16],
+        count,
+        degrees: false,
+    }
 }
 
-// The shape in Cartesian coordinates under one operation, or none where count is 0.
+// The operations of a shape that stays as it is.
+fn none() -> Operations {
+    operations(TransformOp::Scale(1.0), 0)
+}
+
+// The shape in Cartesian coordinates under the operations.
 fn tessellated(
     shape: Shape,
     options: TessellationOptions,
-    op: TransformOp,
-    count: usize,
+    operations: Operations,
     vertices: &mut [f64],
     triangles: &mut [u32],
-) -> Drawn {
+) -> Result<TriMesh, Refusal> {
     let mut work = [0u32; 2052];
-    let list = [0.0; 0];
-    let t = tessellate::tessellate(
+    let d = Drawing {
         shape,
-        &list,
-        OwnSystem::Inherited,
-        CoordSystem::Cartesian,
+        list: &[],
+        own: None,
+        default: CoordSystem::Cartesian,
         options,
-        false,
-        [op; 16],
-        count,
-        vertices,
-        triangles,
-        &mut work,
-    );
-    let why = t.refusal;
-    let m = t.mesh;
-    Drawn {
-        number: refusal::number(why),
-        mesh: m,
-    }
+        operations,
+    };
+    tessellate::tessellate(&d, vertices, triangles, &mut work)
 }
 
 // The shape in the lent slices.
 pub(crate) fn draw(
     shape: Shape,
     segments: usize,
-    rings: usize,
+    sphere_rings: usize,
     vertices: &mut [f64],
     triangles: &mut [u32],
-) -> Drawn {
+) -> Result<TriMesh, Refusal> {
     let options = TessellationOptions {
-        segments: segments,
-        sphere_rings: rings,
+        segments,
+        sphere_rings,
     };
-    let none = TransformOp::Scale(1.0);
-    tessellated(shape, options, none, 0, vertices, triangles)
+    tessellated(shape, options, none(), vertices, triangles)
 }
 
-// A shape under one operation, or none where count is 0.
+// A shape under the operations.
 // There is room for 1,026 vertices and 2,048 triangles: the sphere of 1,024 segments and 2 rings.
-fn counted(shape: Shape, options: TessellationOptions, op: TransformOp, count: usize) -> Drawn {
+fn counted(
+    shape: Shape,
+    options: TessellationOptions,
+    operations: Operations,
+) -> Result<TriMesh, Refusal> {
     let mut vertices = [0.0; 3078];
     let mut triangles = [0u32; 6144];
-    tessellated(shape, options, op, count, &mut vertices, &mut triangles)
+    tessellated(shape, options, operations, &mut vertices, &mut triangles)
 }
 
 // The counts of a shape.
-pub(crate) fn counts(shape: Shape, segments: usize, rings: usize) -> Drawn {
+pub(crate) fn counts(
+    shape: Shape,
+    segments: usize,
+    sphere_rings: usize,
+) -> Result<TriMesh, Refusal> {
     let options = TessellationOptions {
-        segments: segments,
-        sphere_rings: rings,
+        segments,
+        sphere_rings,
     };
-    counted(shape, options, TransformOp::Scale(1.0), 0)
+    counted(shape, options, none())
 }
 
 // The counts of a shape under one operation.
-pub(crate) fn moved(shape: Shape, op: TransformOp) -> Drawn {
+pub(crate) fn moved(shape: Shape, op: TransformOp) -> Result<TriMesh, Refusal> {
     let options = TessellationOptions {
         segments: 32,
         sphere_rings: 16,
     };
-    counted(shape, options, op, 1)
+    counted(shape, options, operations(op, 1))
 }

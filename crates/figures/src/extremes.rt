@@ -16,8 +16,8 @@ fn first_box() -> Shape {
 fn about_z(name: &[u8], angle: f64) {
     let mut line = [0u8; 160];
     let n = put_turned_box(&mut line, 0, name);
-    let d = drawn::moved(first_box(), TransformOp::RotateZ(angle));
-    written::counts(&mut line, n, d);
+    let made = drawn::moved(first_box(), TransformOp::RotateZ(angle));
+    written::counts(&mut line, n, made);
 }
 
 fn segments() {
@@ -48,8 +48,8 @@ fn seven_places() {
     let mut v = [0.0; 21];
     let mut t = [0u32; 36];
     let n = put(&mut line, 0, b"box (0,0,0) to (1,2,3) in 7 vertex places: ");
-    let d = drawn::draw(first_box(), 32, 16, &mut v, &mut t);
-    written::counts(&mut line, n, d);
+    let made = drawn::draw(first_box(), 32, 16, &mut v, &mut t);
+    written::counts(&mut line, n, made);
 }
 
 pub(crate) fn all() {

@@ -1,6 +1,5 @@
 // The box in the record of a mesh: after it was drawn, after it was scaled, and one that is not right.
-use crate::drawn::Drawn;
-use crate::written;
+use crate::{drawn, written};
 use figures_lines::put_bounds;
 use mesh::TriMesh;
 use slice_text::put;
@@ -18,21 +17,16 @@ fn bounds(name: &[u8], m: TriMesh) {
 fn flipped(title: &[u8], m: TriMesh, v: &[f64], t: &mut [u32]) {
     let mut line = [0u8; 160];
     let n = put(&mut line, 0, title);
-    let e = mesh::flip(m, v, t);
-    let why = e.refusal;
-    let d = Drawn {
-        number: refusal::number(why),
-        mesh: m,
-    };
-    written::counts(&mut line, n, d);
+    written::counts(&mut line, n, mesh::flip(m, v, t));
 }
 
 // The mesh as drawn, and scaled by −2.
 pub(crate) fn all(m: TriMesh, v: &mut [f64], t: &mut [u32]) {
     bounds(b"  ", m);
-    let op = TransformOp::Scale(-2.0);
-    let e = mesh::transform(m, v, t, [op; 16], 1, false);
-    bounds(b"  scaled by -2: ", e.mesh);
+    let operations = drawn::operations(TransformOp::Scale(-2.0), 1);
+    // the record of the mesh as it was where the scaling is refused
+    let scaled = mesh::transform(m, v, t, &operations).unwrap_or(m);
+    bounds(b"  scaled by -2: ", scaled);
     flipped(
         b"  scaled by -2, flipped with the box from before: ",
         m,

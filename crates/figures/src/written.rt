@@ -1,6 +1,7 @@
 // Lines to standard output: each is put into an array of 160 bytes, which no line fills. A failed write is not reported: the output is then short.
-use crate::drawn::Drawn;
 use figures_text::put_counts;
+use mesh::TriMesh;
+use refusal::Refusal;
 use slice_text::put;
 
 // The first n bytes of a line.
@@ -12,9 +13,9 @@ pub(crate) fn write(line: &[u8], n: usize) {
 }
 
 // The counts of a mesh, or its refusal, after a title of n bytes that the line begins with; then the end of the line.
-pub(crate) fn counts(line: &mut [u8], n: usize, d: Drawn) {
-    let m = d.mesh;
-    let mut to = put_counts(line, n, d.number, m);
+pub(crate) fn counts(line: &mut [u8], n: usize, made: Result<TriMesh, Refusal>) {
+    let m = made.unwrap_or(mesh_check::empty_record());
+    let mut to = put_counts(line, n, refusal::number(made), m);
     to = put(line, to, b"\n");
     write(line, to);
 }

@@ -1,10 +1,10 @@
 -- Lines of arcs, roots and meshes (docs/SCOPE.md, "Figures"). Definitions only.
-use Rattle.std.specs.Prelude.{Bool, cond, List, ◌++◌, ℕ, Float}
+use Rattle.std.specs.Prelude.{Bool, cond, List, ◌++◌, ℕ, Result, Float}
 use Rattle.std.specs.Float.{binary64}
 use Rattle.std.specs.Float.Ieee.{to_bits}
 use Rattle.root_case.specs.declared.RootCase.{RootCase}
 use Rattle.root_case.specs.declared.RootCase.TheVariants.{Zero, NotFinite, Negative, Subnormal, EvenExponent, OddExponent}
-use Rattle.mesh_measures.specs.declared.Measured.{Measured}
+use Rattle.refusal.specs.declared.Refusal.{Refusal}
 use Rattle.slice_text.specs.Ascii.{ascii}
 use Rattle.slice_text.specs.Numbers.{decimal_of}
 use Rattle.figures_text.specs.Counts.{measured_of}
@@ -35,7 +35,7 @@ unfoldable pub border_of : Bool → List ℕ
 border_of closed = cond closed (ascii ", closed\n") (ascii ", open\n")
 
 -- the area and the signed volume of a mesh
-abbrev pub measures_of : Measured → Measured → List ℕ
+abbrev pub measures_of : Result ℕ Refusal → Result ℕ Refusal → List ℕ
 measures_of area volume = ascii "  area " ++ (measured_of area ++ (ascii ", signed volume " ++ (measured_of volume ++ ascii "\n")))
 
 -- the first four vertices and the first two triangles of a mesh

@@ -5,7 +5,7 @@ ghost use Rattle.slice_text.specs.Line.{line, Puts};
 use figures_points::{put_point, put_points, put_triangles};
 use figures_text::put_measured;
 use math::BoundingBox;
-use mesh_measures::Measured;
+use refusal::Refusal;
 use slice_text::put;
 
 // Whether the mesh is closed, to the end of the line.
@@ -19,7 +19,12 @@ pub fn put_border(out: &mut [u8], at: usize, closed: bool) -> usize
 }
 
 // The area and the signed volume.
-pub fn put_measures(out: &mut [u8], at: usize, area: Measured, signed_volume: Measured) -> usize
+pub fn put_measures(
+    out: &mut [u8],
+    at: usize,
+    area: Result<u64, Refusal>,
+    signed_volume: Result<u64, Refusal>,
+) -> usize
     ensures { Puts (measures_of area signed_volume) (line out.old at) (line out.new result) }
 {
     let mut to = put(out, at, b"  area ");

@@ -47,15 +47,13 @@ fn put_point_at(out: &mut [u8], at: usize, v: &[f64], i: usize) -> usize
     )
 }
 
-// The first n points of v.
+// The first n points of v. As one function over a closure that puts an item, this, put_corners and put_triangles would each still state what the closure puts.
 pub fn put_points(out: &mut [u8], at: usize, v: &[f64], n: usize) -> usize
     ensures { Puts (up_to n (point_at v.now)) (line out.old at) (line out.new result) }
 {
     let mut to = at;
-    let mut i = 0;
-    while i < n {
+    for i in 0..n {
         to = put_point_at(out, to, v, i);
-        i += 1;
     }
     to
 }
@@ -86,10 +84,8 @@ pub fn put_corners(out: &mut [u8], at: usize, v: &[f64], n: usize) -> usize
     ensures { Puts (up_to n (corner_at v.now)) (line out.old at) (line out.new result) }
 {
     let mut to = at;
-    let mut i = 0;
-    while i < n {
+    for i in 0..n {
         to = put_corner_at(out, to, v, i);
-        i += 1;
     }
     to
 }
@@ -131,10 +127,8 @@ pub fn put_triangles(out: &mut [u8], at: usize, t: &[u32], n: usize) -> usize
     ensures { Puts (up_to n (triangle_at t.now)) (line out.old at) (line out.new result) }
 {
     let mut to = at;
-    let mut i = 0;
-    while i < n {
+    for i in 0..n {
         to = put_triangle_at(out, to, t, i);
-        i += 1;
     }
     to
 }

@@ -7,13 +7,11 @@ use borrow.Author.Tests.{lt-ltb, le-ltb, ltb-true, eq-eqb, ne_eqb}
 use lib.Dec.{eqb, ltb, leb}
 use lib.Ieee.{Float, binary64, of_bits, add, sub}
 use Rattle.ieee_whole.specs.Whole.{ceiling}
-use Rattle.refusal.specs.Number.{number_of}
 use Rattle.mesh_check.specs.declared.TriMesh.{TriMesh}
-use Rattle.mesh_measures.specs.declared.Measured.{Measured}
 use Rattle.slice_text.specs.Ascii.{ascii}
 use Rattle.slice_text.specs.Line.{Line, Puts}
 use Rattle.slice_text.specs.Numbers.{decimal_of, hex_of}
-use Rattle.figures_text.specs.Counts.{refusal_of, measured_of, counts_of}
+use Rattle.figures_text.specs.Counts.{refusal_of, counts_of}
 use Rattle.figures_text.specs.Floats.{is_whole, is_small_power, by_bits_of, half, magnitude_of, float_bits_of}
 
 pub small_power : (b : ℕ) → is_small_power b ≡ true → b / 4503599627370496 < 1023
@@ -66,14 +64,6 @@ minus_text b e p = rw e p
 pub plain_text : (b : ℕ) {l m : Line} → leb 9223372036854775808 b ≡ false → Puts (magnitude_of (b % 9223372036854775808)) l m → Puts (float_bits_of b) l m
 unfolding float_bits_of
 plain_text b e p = rw e p
-
-pub refused_measure : (m : Measured) {n : ℕ} {l k : Line} → n ≡ number_of m.refusal → 0 < n → Puts (refusal_of n) l k → Puts (measured_of m) l k
-unfolding measured_of
-refused_measure m {n} e h p = rw (← e, lt-ltb 0 n h) p
-
-pub measure_text : (m : Measured) {n : ℕ} {l k : Line} → n ≡ number_of m.refusal → n ≤ 0 → Puts (float_bits_of m.bits) l k → Puts (measured_of m) l k
-unfolding measured_of
-measure_text m {n} e h p = rw (← e, le-ltb 0 n h) p
 
 pub refused_counts : (n : ℕ) (m : TriMesh) {l k : Line} → 0 < n → Puts (refusal_of n) l k → Puts (counts_of n m) l k
 unfolding counts_of

@@ -1,8 +1,8 @@
 -- The text of counts and measures, or of their refusals. Definitions only.
-use Rattle.std.specs.Prelude.{cond, List, ◌++◌, ℕ, ltb}
+use Rattle.std.specs.Prelude.{cond, List, ◌++◌, ℕ, ltb, Result, Ok, Err, Some}
+use Rattle.refusal.specs.declared.Refusal.{Refusal}
 use Rattle.refusal.specs.Number.{number_of}
 use Rattle.mesh_check.specs.declared.TriMesh.{TriMesh}
-use Rattle.mesh_measures.specs.declared.Measured.{Measured}
 use Rattle.slice_text.specs.Ascii.{ascii}
 use Rattle.slice_text.specs.Numbers.{decimal_of}
 use Rattle.figures_text.specs.Floats.{float_bits_of}
@@ -11,9 +11,10 @@ use Rattle.figures_text.specs.Floats.{float_bits_of}
 abbrev pub refusal_of : ℕ → List ℕ
 refusal_of n = ascii "refusal " ++ decimal_of n
 
--- a measure, or its refusal
-unfoldable pub measured_of : Measured → List ℕ
-measured_of m = cond (ltb 0 (number_of m.refusal)) (refusal_of (number_of m.refusal)) (float_bits_of m.bits)
+-- a measure by its bits, or its refusal
+abbrev pub measured_of : Result ℕ Refusal → List ℕ
+measured_of (Ok bits) = float_bits_of bits
+measured_of (Err refusal) = refusal_of (number_of (Some refusal))
 
 -- the counts of a mesh, or the refusal by its number, which is 0 where there is none
 unfoldable pub counts_of : ℕ → TriMesh → List ℕ

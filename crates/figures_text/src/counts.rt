@@ -5,7 +5,7 @@ ghost use Rattle.slice_text.specs.Numbers.{decimal_of};
 
 use crate::floats::put_float_bits;
 use mesh_check::TriMesh;
-use mesh_measures::Measured;
+use refusal::Refusal;
 use slice_text::{put, put_decimal};
 
 pub fn put_count(out: &mut [u8], at: usize, n: usize) -> usize
@@ -22,19 +22,18 @@ fn put_refusal(out: &mut [u8], at: usize, number: u32) -> usize
     put_decimal(out, to, number as u64)
 }
 
-// A measure, or its refusal.
-pub fn put_measured(out: &mut [u8], at: usize, m: Measured) -> usize
-    ensures { Puts (measured_of m) (line out.old at) (line out.new result) }
+// A measure by its bits, or its refusal.
+pub fn put_measured(out: &mut [u8], at: usize, measured: Result<u64, Refusal>) -> usize
+    ensures { Puts (measured_of measured) (line out.old at) (line out.new result) }
 {
-    let why = m.refusal;
-    let number = refusal::number(why);
-    if 0 < number {
-        return put_refusal(out, at, number);
+    match measured {
+        Ok(bits) => put_float_bits(out, at, bits),
+        Err(refusal) => put_refusal(out, at, u32::from(refusal)),
     }
-    put_float_bits(out, at, m.bits)
 }
 
 // "N vertices, M triangles", or the refusal by its number, which is 0 where there is none.
+// A number and no Result: the clause holds of every number, of those that no refusal has too, and may not say less.
 pub fn put_counts(out: &mut [u8], at: usize, refused: u32, m: TriMesh) -> usize
     ensures { Puts (counts_of refused m) (line out.old at) (line out.new result) }
 {

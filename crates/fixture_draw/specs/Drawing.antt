@@ -1,8 +1,7 @@
 -- The walk over the solids of a file: what it carries, and how the mesh so far lies in the output. Definitions only.
-use Rattle.std.specs.Prelude.{◌≡◌, true, false, List, ℕ, ◌+◌, ◌*◌, ◌≤◌, ◌<◌, length, take, replicate, Float}
+use Rattle.std.specs.Prelude.{◌≡◌, Some, Result, Ok, Err, List, ℕ, ◌+◌, ◌*◌, ◌≤◌, ◌<◌, length, take, replicate, Float}
 use Rattle.refusal.specs.declared.Refusal.{Refusal}
-use Rattle.refusal.specs.declared.Refusal.TheVariants.{Accepted}
-use Rattle.refusal.specs.Accepted.{is_accepted}
+use Rattle.refusal.specs.Answer.{Accepted}
 use Rattle.mesh_spec.specs.Mesh.{Mesh}
 use Rattle.mesh_check.specs.declared.TriMesh.{TriMesh}
 use Rattle.fixture_spec.specs.Fields.{file_refusal}
@@ -21,18 +20,6 @@ start = record {
   default = start_settings.default;
   vertices = 0;
   triangles = 0;
-  refusal = Accepted;
-}
-
--- a walk at another place, with a refusal or none
-abbrev pub moved : Walk → ℕ → Refusal → Walk
-moved w at refusal = record {
-  at = at;
-  options = w.options;
-  default = w.default;
-  vertices = w.vertices;
-  triangles = w.triangles;
-  refusal = refusal;
 }
 
 -- a walk behind the solid j, which has the record m
@@ -43,7 +30,6 @@ onward w j m = record {
   default = j.default;
   vertices = w.vertices + m.vertices;
   triangles = w.triangles + m.triangles;
-  refusal = w.refusal;
 }
 
 -- the slices have the places that a record counts, and what they hold may be added to an output of n bytes
@@ -60,7 +46,7 @@ pub record Open (file : List ℕ) (w : Walk) (m : Mesh) : Type 0 where
   pub mesh : appended m (jobs_at file w.at w.options w.default) ≡ fixture_mesh file
   pub refusal : solids_refusal (jobs_at file w.at w.options w.default) ≡ solids_refusal (jobs_of file)
 
--- where the walk is, with an output of n bytes
+-- where the walk is, with an output of n bytes; no solid was refused so far
 pub record Drawing (file : List ℕ) (w : Walk) (n : ℕ) (out : List ℕ) : Type 0 where
   -- the mesh of the solids so far, its counts, and that it lies in the output
   pub mesh : Mesh
@@ -71,9 +57,8 @@ pub record Drawing (file : List ℕ) (w : Walk) (n : ℕ) (out : List ℕ) : Typ
   pub laid : Laid mesh n out
   pub short : length file ≤ 65535
   pub within : w.at ≤ length file
-  -- a refused solid ends the walk
-  pub refused : is_accepted w.refusal ≡ false → (w.at ≡ length file) × (w.refusal ≡ solids_refusal (jobs_of file))
-  pub unrefused : is_accepted w.refusal ≡ true → Open file w mesh
+  -- and the solids to come
+  pub coming : Open file w mesh
 
 -- the walk before a step: it is not at the file's end
 pub record Going (file : List ℕ) (w : Walk) (out : List ℕ) : Type 0 where
@@ -81,23 +66,35 @@ pub record Going (file : List ℕ) (w : Walk) (out : List ℕ) : Type 0 where
   pub before : w.at < length file
 
 -- a step from w to r
-pub record Stepped (file : List ℕ) (w r : Walk) (n : ℕ) (out : List ℕ) : Type 0 where
+pub record Advanced (file : List ℕ) (w r : Walk) (n : ℕ) (out : List ℕ) : Type 0 where
   pub drawing : Drawing file r n out
   pub onward : w.at < r.at
+
+-- a solid is refused, and its refusal is the file's; the output has n bytes
+pub record Refused (file : List ℕ) (why : Refusal) (n : ℕ) (out : List ℕ) : Type 0 where
+  pub refusal : Some why ≡ solids_refusal (jobs_of file)
+  pub bytes : length out ≡ n
+
+-- what a step from w answers
+abbrev pub Stepped : List ℕ → Walk → Result Walk Refusal → ℕ → List ℕ → Type 0
+Stepped file w (Ok r) n out = Advanced file w r n out
+Stepped file w (Err why) n out = Refused file why n out
 
 -- a file with sound fields and an output of zeros
 pub record Begins (file out : List ℕ) : Type 0 where
   pub sound : file_refusal file ≡ Accepted
   pub zeros : out ≡ replicate (length out) 0
 
--- at the file's end: the refusal of the solids, or the file's mesh in an output of n bytes, with its counts
+-- at the file's end: no solid is refused, and the file's mesh is in an output of n bytes, with its counts
 pub record Held (file : List ℕ) (w : Walk) (n : ℕ) (out : List ℕ) : Type 0 where
+  pub refusal : Accepted ≡ solids_refusal (jobs_of file)
   pub counted : length (fixture_mesh file).vertices ≡ w.vertices
   pub faces : length (fixture_mesh file).triangles ≡ w.triangles
   pub few : w.vertices < 4294967296
   pub fewer : w.triangles < 4294967296
   pub laid : Laid (fixture_mesh file) n out
 
-pub record Drawn (file : List ℕ) (w : Walk) (n : ℕ) (out : List ℕ) : Type 0 where
-  pub refusal : w.refusal ≡ solids_refusal (jobs_of file)
-  pub held : is_accepted w.refusal ≡ true → Held file w n out
+-- what the walk over all solids answers
+abbrev pub Drawn : List ℕ → Result Walk Refusal → ℕ → List ℕ → Type 0
+Drawn file (Ok w) n out = Held file w n out
+Drawn file (Err why) n out = Refused file why n out

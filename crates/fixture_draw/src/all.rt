@@ -20,12 +20,11 @@ fn begun() -> Walk
         default: CoordSystem::Cartesian,
         vertices: 0,
         triangles: 0,
-        refusal: Refusal::Accepted,
     }
 }
 
-// Draws the solids of a file whose fields are sound into an output of zeros. Each is drawn once, in the same local arrays.
-pub fn draw_all(file: &[u8], out: &mut [u8]) -> Walk
+// Draws the solids of a file whose fields are sound into an output of zeros. Each is drawn once, in the same local arrays; a refused one ends the walk.
+pub fn draw_all(file: &[u8], out: &mut [u8]) -> Result<Walk, Refusal>
     requires { Begins file.now out.old }
     ensures { Drawn file.now result (length out.old) out.new }
 {
@@ -34,6 +33,7 @@ pub fn draw_all(file: &[u8], out: &mut [u8]) -> Walk
     let mut work = [0u32; 2048];
     let mut list = [0.0; 8192];
     let mut w = begun();
+    // A `while`: a solid says itself where the next field is, so no range counts them.
     while w.at < file.len() {
         w = draw_next(
             file,
@@ -43,7 +43,7 @@ pub fn draw_all(file: &[u8], out: &mut [u8]) -> Walk
             &mut work,
             &mut list,
             out,
-        );
+        )?;
     }
-    w
+    Ok(w)
 }

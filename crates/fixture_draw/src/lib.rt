@@ -5,11 +5,9 @@ mod all;
 mod next;
 
 pub use all::draw_all;
-use refusal::Refusal;
 use shape::{CoordSystem, TessellationOptions};
 
-// What is carried from solid to solid: the place in the file, the options and the default system that hold there, the counts of the mesh so far, and the
-// refusal of a solid, if one was refused; the place is then the file's end.
+// What is carried from solid to solid: the place in the file, the options and the default system that hold there, and the counts of the mesh so far.
 #[derive(Clone, Copy)]
 pub struct Walk {
     pub at: usize,
@@ -17,5 +15,4 @@ pub struct Walk {
     pub default: CoordSystem,
     pub vertices: usize,
     pub triangles: usize,
-    pub refusal: Refusal,
 }

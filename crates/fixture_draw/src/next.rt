@@ -2,29 +2,13 @@
 ghost use Rattle.std.specs.Prelude.{◌≡◌, length, take, ◌*◌};
 ghost use Rattle.fixture_job.specs.Drawable.{Places};
 ghost use Rattle.fixture_output.specs.Laid.{Added};
-ghost use Rattle.fixture_draw.specs.Drawing.{moved, onward, Going, Stepped, Placing};
+ghost use Rattle.fixture_draw.specs.Drawing.{onward, Going, Stepped, Placing};
 
 use crate::Walk;
 use fixture_job::draw_job;
 use fixture_next::NextJob;
 use mesh_check::TriMesh;
 use refusal::Refusal;
-
-// The walk at another place, with a refusal or none.
-fn stopped(w: Walk, at: usize, refusal: Refusal) -> Walk
-    ensures { result ≡ moved w at refusal }
-{
-    let options = w.options;
-    let default = w.default;
-    Walk {
-        at,
-        options,
-        default,
-        vertices: w.vertices,
-        triangles: w.triangles,
-        refusal,
-    }
-}
 
 // Adds the solid j, whose mesh the slices hold, and goes on behind it.
 fn place(
@@ -45,20 +29,16 @@ fn place(
     let n = mesh.vertices;
     let k = mesh.triangles;
     fixture_output::add(out, v, t, &vertices[..3 * n], &triangles[..3 * k]);
-    let options = j.options;
-    let default = j.default;
-    let refusal = w.refusal;
     Walk {
         at: j.next,
-        options,
-        default,
+        options: j.options,
+        default: j.default,
         vertices: v + n,
         triangles: t + k,
-        refusal,
     }
 }
 
-// The walk after the next solid. It is at the file's end where there is none, or where the solid is refused.
+// The walk after the next solid, or the refusal of that solid. It is at the file's end where there is none.
 fn step(
     file: &[u8],
     w: Walk,
@@ -67,28 +47,22 @@ fn step(
     work: &mut [u32],
     list: &mut [f64],
     out: &mut [u8],
-) -> Walk
+) -> Result<Walk, Refusal>
     requires { Going file.now w out.old × Places vertices.old triangles.old work.old list.old }
     ensures { Stepped file.now w result (length out.old) out.new }
 {
-    let at = w.at;
-    let options = w.options;
-    let default = w.default;
-    let refusal = w.refusal;
-    let j = fixture_next::next_job(file, at, options, default);
-    if !j.found {
-        return stopped(w, file.len(), refusal);
-    }
-    let made = draw_job(file, at, j, vertices, triangles, work, list);
-    let why = made.refusal;
-    let mesh = made.mesh;
-    if !refusal::is_accepted(why) {
-        return stopped(w, file.len(), why);
-    }
-    place(out, w, j, mesh, vertices, triangles)
+    let Some(j) = fixture_next::next_job(file, w.at, w.options, w.default) else {
+        return Ok(Walk {
+            at: file.len(),
+            ..w
+        });
+    };
+    let mesh = draw_job(file, w.at, j, vertices, triangles, work, list)?;
+    Ok(place(out, w, j, mesh, vertices, triangles))
 }
 
 // The same in arrays of the sizes that a solid is lent.
+// Apart from step: the lengths of these arrays give what the clause `Places` of step asks for.
 pub(crate) fn draw_next(
     file: &[u8],
     w: Walk,
@@ -97,7 +71,7 @@ pub(crate) fn draw_next(
     work: &mut [u32; 2048],
     list: &mut [f64; 8192],
     out: &mut [u8],
-) -> Walk
+) -> Result<Walk, Refusal>
     requires { Going file.now w out.old }
     ensures { Stepped file.now w result (length out.old) out.new }
 {

@@ -9,7 +9,7 @@ use lib.ListN.{length, get_or, drop}
 use lib.Seq.{drop-cons, drop-drop}
 use lib.Dec.{ltb}
 use borrow.Author.Tests.{ltb-false}
-use Rattle.refusal.specs.declared.Refusal.TheVariants.{Accepted, BrokenField, UnknownField}
+use Rattle.refusal.specs.Answer.{Accepted, BrokenField, UnknownField}
 use Rattle.fixture_spec.specs.Fields.{Field, size_of, payload_of, fields_from, known_tag, known_first, layout_of, right_size, field_refusal}
 
 -- ---- the field at a place

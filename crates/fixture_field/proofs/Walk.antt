@@ -6,15 +6,18 @@ use Prim.Native.Nat.{ℕ, ◌+◌, ◌≤◌, ◌<◌}
 use native.Mathlib.Omega.{arith}
 use lib.ListN.{length, get_or, drop, length-drop, drop_of_length-le}
 use borrow.Author.Tests.{le-ltb, lt-ltb}
+use Rattle.refusal.specs.Answer.{Answer}
+use Rattle.refusal.specs.Answer.{Accepted, BrokenField, NoSolid}
 use Rattle.refusal.specs.declared.Refusal.{Refusal}
-use Rattle.refusal.specs.declared.Refusal.TheVariants.{Accepted, BrokenField, NoSolid}
 use Rattle.refusal.specs.Accepted.{is_accepted, or_else}
+use Rattle.refusal.specs.Laws.{accepted_is}
+use Rattle.std.specs.Prelude.{Some, None}
 use Rattle.fixture_spec.specs.Fields.{Field, size_of, fields_from, is_solid, field_refusal, first_refusal, any_solid, file_refusal}
 use Rattle.fixture_payload.proofs.Part.{part, part_is}
 use Rattle.fixture_field.proofs.Cut.{behind, next_field, fits}
 
 -- what is left to say: whether a solid was seen, and the fields to come
-unfoldable rest : Bool → List Field → Refusal
+unfoldable rest : Bool → List Field → Answer
 rest seen fs = or_else (first_refusal fs) (cond (not (seen || any_solid fs)) NoSolid Accepted)
 
 -- the walk stands at a field's tag, or at the end
@@ -31,6 +34,14 @@ pub too_long : (file : List ℕ) → 65535 < length file → BrokenField ≡ fil
 unfolding file_refusal
 too_long file h = rw (lt-ltb 65535 (length file) h)
 
+-- a refusal is none that is accepted
+pub never_accepted : (r : Refusal) → is_accepted (Some r) ≡ false
+never_accepted r = go (is_accepted (Some r)) refl
+  where
+    go : (b : Bool) → is_accepted (Some r) ≡ b → is_accepted (Some r) ≡ false
+    go true e = let no : Some r ≡ None = accepted_is (Some r) e in cc
+    go false e = e
+
 -- ---- one field
 
 or_assoc : (a b c : Bool) → (a || (b || c)) ≡ ((a || b) || c)
@@ -38,20 +49,20 @@ or_assoc true b c = refl
 or_assoc false b c = refl
 
 -- what a field answers, and if it is accepted the fields behind it
-abbrev answered : Bool → List Field → Refusal → Refusal
+abbrev answered : Bool → List Field → Answer → Answer
 answered seen fs r = or_else (or_else r (first_refusal fs)) (cond (not (seen || any_solid fs)) NoSolid Accepted)
 
-rest_cons : (seen : Bool) (f : Field) (fs : List Field) (r : Refusal) → field_refusal f.tag f.after ≡ r
+rest_cons : (seen : Bool) (f : Field) (fs : List Field) (r : Answer) → field_refusal f.tag f.after ≡ r
     → rest seen (f ∷ fs) ≡ answered (seen || is_solid f.tag) fs r
 unfolding rest first_refusal any_solid
 rest_cons seen f fs r e = rw (e, or_assoc seen (is_solid f.tag) (any_solid fs))
 
 -- a refusal stands whatever follows
-stands : (r s : Refusal) → is_accepted r ≡ false → or_else r s ≡ r
+stands : (r s : Answer) → is_accepted r ≡ false → or_else r s ≡ r
 unfolding or_else
 stands r s e = ap (λ (b : Bool). cond b s r) e
 
-module _ (file : List ℕ) (at : ℕ) (seen : Bool) (w : Walking file at seen) (h : at < length file) (r : Refusal)
+module _ (file : List ℕ) (at : ℕ) (seen : Bool) (w : Walking file at seen) (h : at < length file) (r : Answer)
     (e : r ≡ field_refusal (get_or file at 0) (part file (at + 1))) where
   here : file_refusal file ≡ answered (seen || is_solid (get_or file at 0)) (behind file at) r
   here =

@@ -1,5 +1,6 @@
 // One field: a tag and the bytes of the file behind it.
 ghost use Rattle.std.specs.Prelude.{◌≡◌};
+ghost use Rattle.refusal.specs.Answer.{answer_of};
 ghost use Rattle.fixture_spec.specs.Fields as Fields;
 
 use fixture_layout::{layout_of, right_size};
@@ -33,26 +34,26 @@ fn known_first(tag: u8, first: u8) -> bool
 }
 
 // Refusal 10 as far as the bytes are there, then 9.
-pub fn field_refusal(tag: u8, after: &[u8]) -> Refusal
-    ensures { result ≡ Fields.field_refusal tag after.now }
+pub fn field_refusal(tag: u8, after: &[u8]) -> Result<(), Refusal>
+    ensures { answer_of result ≡ Fields.field_refusal tag after.now }
 {
     if !known_tag(tag) {
-        return Refusal::UnknownField;
+        return Err(Refusal::UnknownField);
     }
     if after.len() < 2 {
-        return Refusal::BrokenField;
+        return Err(Refusal::BrokenField);
     }
     let n = size_of(after);
     let there = payload_len(after);
     let first = payload_first(after);
     if (0 < there) & !known_first(tag, first) {
-        return Refusal::UnknownField;
+        return Err(Refusal::UnknownField);
     }
     if after.len() < 2 + n {
-        return Refusal::BrokenField;
+        return Err(Refusal::BrokenField);
     }
     if !right_size(layout_of(tag, first), n) {
-        return Refusal::BrokenField;
+        return Err(Refusal::BrokenField);
     }
-    Refusal::Accepted
+    Ok(())
 }

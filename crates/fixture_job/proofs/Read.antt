@@ -9,7 +9,9 @@ use lib.Ieee.{Float}
 use Rattle.slice_bytes.specs.Bytes.{float_at}
 use Rattle.slice_byte_lists.specs.Lists.{floats_of}
 use Rattle.transform.specs.declared.TransformOp.{TransformOp}
-use Rattle.mesh_made.specs.declared.Made.{Made}
+use Rattle.std.specs.Prelude.{Result}
+use Rattle.refusal.specs.declared.Refusal.{Refusal}
+use Rattle.mesh_check.specs.declared.TriMesh.{TriMesh}
 use Rattle.mesh_made.specs.Made.{Lent, lent, Ending, GivesMade}
 use Rattle.tessellate_spec.specs.Outcome.{job, tessellate_of}
 use Rattle.fixture_spec.specs.Outcome.{solid_lent, drawn}
@@ -54,7 +56,7 @@ module _ (file : List ℕ) (list : List Float) (from n : ℕ) (few : n ≤ lengt
 pub lent_same : (vs : List Float) (ts ws : List ℕ) → length vs ≡ 3072 → length ts ≡ 6144 → length ws ≡ 2048 → lent vs ts ws ≡ solid_lent
 lent_same vs ts ws a b c = λ i. record { vertices = a i; triangles = b i; work = c i }
 
-pub same_job : (file : List ℕ) (at : ℕ) (j : NextJob) (list : List Float) (ops : List TransformOp) (n : Lent) (r : Made) (vs : List Float) (ts ws : List ℕ)
+pub same_job : (file : List ℕ) (at : ℕ) (j : NextJob) (list : List Float) (ops : List TransformOp) (n : Lent) (r : Result TriMesh Refusal) (vs : List Float) (ts ws : List ℕ)
     → list ≡ floats_of j.list_floats (drop j.list_at file) → ops ≡ ops_from file at → n ≡ solid_lent
     → GivesMade (tessellate_of (job j.shape list j.own j.default j.options j.degrees ops j.count) n) r vs ts ws
     → GivesMade (drawn (job_in file at j)) r vs ts ws

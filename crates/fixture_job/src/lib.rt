@@ -7,7 +7,10 @@ ghost use Rattle.mesh_made.specs.Made.{GivesMade};
 ghost use Rattle.fixture_job.specs.Drawable.{Drawable, Places};
 
 use fixture_next::NextJob;
-use mesh_made::Made;
+use mesh_check::TriMesh;
+use refusal::Refusal;
+use shape::Drawing;
+use transform::Operations;
 
 // The solid j of the file, whose operations stand from place at on, in slices of 1,024 vertex and 2,048 triangle places.
 pub fn draw_job(
@@ -18,7 +21,7 @@ pub fn draw_job(
     triangles: &mut [u32],
     work: &mut [u32],
     list: &mut [f64],
-) -> Made
+) -> Result<TriMesh, Refusal>
     requires { Drawable file.now at j × Places vertices.old triangles.old work.old list.old }
     ensures { GivesMade (drawn (job_in file.now at j)) result vertices.new triangles.new work.new }
 {
@@ -26,21 +29,18 @@ pub fn draw_job(
     let n = j.list_floats;
     slice_byte_lists::get_floats(&file[from..], &mut list[..n]);
     let ops = fixture_next::next_ops(file, at);
-    let shape = j.shape;
-    let own = j.own;
-    let default = j.default;
-    let options = j.options;
-    tessellate::tessellate(
-        shape,
-        &list[..n],
-        own,
-        default,
-        options,
-        j.degrees,
+    let operations = Operations {
         ops,
-        j.count,
-        vertices,
-        triangles,
-        work,
-    )
+        count: j.count,
+        degrees: j.degrees,
+    };
+    let d = Drawing {
+        shape: j.shape,
+        list: &list[..n],
+        own: j.own,
+        default: j.default,
+        options: j.options,
+        operations,
+    };
+    tessellate::tessellate(&d, vertices, triangles, work)
 }

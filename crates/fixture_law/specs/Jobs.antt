@@ -1,8 +1,8 @@
 -- What it says of the file and of each solid that nothing refuses a file. Assumes nothing.
 use Rattle.std.specs.Prelude.{◌≡◌, refl, Bool, true, false, not, cond, List, [], ◌∷◌, ℕ, ◌≤◌, length, ltb}
 use Rattle.std.proofs.Common.{sym, ap, ◌∙◌, arith, ltb-false}
-use Rattle.refusal.specs.declared.Refusal.{Refusal}
-use Rattle.refusal.specs.declared.Refusal.TheVariants.{Accepted, ShortWork, PointNotFinite, NoRoom, BrokenField, NoSolid}
+use Rattle.refusal.specs.Answer.{Answer}
+use Rattle.refusal.specs.Answer.{Accepted, ShortWork, PointNotFinite, NoRoom, BrokenField, NoSolid}
 use Rattle.refusal.specs.Number.{number_of}
 use Rattle.refusal.specs.Accepted.{is_accepted, or_else}
 use Rattle.refusal.specs.Laws.{accepted_is}
@@ -20,11 +20,11 @@ use Rattle.fixture_law.specs.Words.{EachJob, AllAccepted}
 
 -- ---- tests that did not refuse
 
-passed : (b : Bool) (x r : Refusal) → (number_of x ≡ 0 → ⊥) → cond b x r ≡ Accepted → (b ≡ false) × (r ≡ Accepted)
+passed : (b : Bool) (x r : Answer) → (number_of x ≡ 0 → ⊥) → cond b x r ≡ Accepted → (b ≡ false) × (r ≡ Accepted)
 passed true x r n e = absurd (n (ap number_of e))
 passed false x r n e = (refl, e)
 
-pub neither_refuses : (r s : Refusal) → or_else r s ≡ Accepted → (r ≡ Accepted) × (s ≡ Accepted)
+pub neither_refuses : (r s : Answer) → or_else r s ≡ Accepted → (r ≡ Accepted) × (s ≡ Accepted)
 unfolding or_else
 neither_refuses r s = go (is_accepted r) refl
   where

@@ -7,7 +7,7 @@ use Rattle.std.specs.Float.Ieee.Fits.{add-fits, div-fits}
 use Rattle.ieee.specs.Same.{plus_zero}
 use Rattle.math.specs.declared.Vec3.{Vec3}
 use Rattle.math.specs.Vec.{one, new}
-use Rattle.refusal.specs.declared.Refusal.TheVariants.{Accepted}
+use Rattle.refusal.specs.Answer.{Accepted}
 use Rattle.math_matrix.specs.declared.Row.{Row}
 use Rattle.math_matrix.specs.declared.Mat4.{Mat4}
 use Rattle.math_matrix.specs.Mat.{row_of, along, over_w, transform_point, determinant}

@@ -1,6 +1,6 @@
 -- The mesh of a file that nothing refuses: proper, and closed where every solid is of demand 3's list. Assumes nothing.
 use Rattle.std.specs.Prelude.{◌≡◌, List, [], ◌∷◌, ℕ}
-use Rattle.refusal.specs.declared.Refusal.TheVariants.{Accepted}
+use Rattle.refusal.specs.Answer.{Accepted}
 use Rattle.mesh_spec.specs.Mesh.{Mesh, no_mesh, append}
 use Rattle.mesh_spec.specs.Closed.{Closed, Proper}
 use Rattle.mesh_spec.specs.ClosedLaws.{no_mesh_closed}

@@ -2,8 +2,8 @@
 use Rattle.std.specs.Prelude.{◌≡◌, cond, List, ℕ, replicate}
 use Rattle.std.proofs.Math.Path.{sym}
 use Rattle.std.proofs.Common.{ap, ◌∙◌, subst, arith}
-use Rattle.refusal.specs.declared.Refusal.{Refusal}
-use Rattle.refusal.specs.declared.Refusal.TheVariants.{Accepted, NoRoom}
+use Rattle.refusal.specs.Answer.{Answer}
+use Rattle.refusal.specs.Answer.{Accepted, NoRoom}
 use Rattle.refusal.specs.Accepted.{is_accepted}
 use Rattle.mesh_spec.specs.Closed.{Closed, Proper}
 use Rattle.fixture_spec.specs.Solids.{jobs_of}
@@ -17,7 +17,7 @@ use Rattle.fixture_law.specs.MeshFloats.{fits_fixture}
 use Rattle.fixture_law.specs.ReadBack.{Writable, there_small, read_back}
 
 -- the answer r and the output's final bytes, with an output of n bytes
-pub record FixturePromise (file : List ℕ) (n : ℕ) (r : Refusal) (out : List ℕ) : Type 0 where
+pub record FixturePromise (file : List ℕ) (n : ℕ) (r : Answer) (out : List ℕ) : Type 0 where
   pub refusal : r ≡ (fixture_of file n).refusal
   pub output : out ≡ (fixture_of file n).output
   -- accepted: the mesh read back from the output is that of the file
@@ -48,10 +48,10 @@ plan_opens file n e = (neither_refuses (open_refusal file) (cond (short_output (
 
 plan_output : (file : List ℕ) (n : ℕ) → plan_refusal file n ≡ Accepted → (fixture_of file n).output ≡ output_of (fixture_mesh file) n
 unfolding fixture_of
-plan_output file n e = ap (λ (q : Refusal). cond (is_accepted q) (output_of (fixture_mesh file) n) (replicate n 0)) e
+plan_output file n e = ap (λ (q : Answer). cond (is_accepted q) (output_of (fixture_mesh file) n) (replicate n 0)) e
 
 -- the outcome has it
-pub fixture_promised : (file : List ℕ) (n : ℕ) (r : Refusal) (out : List ℕ) → r ≡ (fixture_of file n).refusal → out ≡ (fixture_of file n).output
+pub fixture_promised : (file : List ℕ) (n : ℕ) (r : Answer) (out : List ℕ) → r ≡ (fixture_of file n).refusal → out ≡ (fixture_of file n).output
     → FixturePromise file n r out
 fixture_promised file n r out e o = record {
   refusal = e;

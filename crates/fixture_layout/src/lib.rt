@@ -1,16 +1,10 @@
 // What a payload is made of, and the lengths that it can have.
 #![tactic(auto)]
 
-ghost use Rattle.std.specs.Prelude.{◌≡◌, ◌<◌};
+ghost use Rattle.std.specs.Prelude.{◌≡◌};
 ghost use Rattle.fixture_spec.specs.Fields as Fields;
 
 use fixture_spec::Layout;
-
-pub fn wide(x: u8) -> usize
-    ensures { (result ≡ x) × (result < 256) }
-{
-    x as usize
-}
 
 fn layout(bytes: u8, floats: u8, item: u8) -> Layout
     ensures { result ≡ Fields.layout bytes floats item }
@@ -47,7 +41,7 @@ pub fn layout_of(tag: u8, kind: u8) -> Layout
 pub fn fixed_bytes(l: Layout) -> usize
     ensures { result ≡ Fields.fixed_bytes l }
 {
-    wide(l.bytes) + 8 * wide(l.floats)
+    usize::from(l.bytes) + 8 * usize::from(l.floats)
 }
 
 // Whether a payload of n bytes has all its bytes, and whole items behind them.
@@ -55,7 +49,7 @@ pub fn right_size(l: Layout, n: usize) -> bool
     ensures { result ≡ Fields.right_size l n }
 {
     let fixed = fixed_bytes(l);
-    let item = wide(l.item);
+    let item = usize::from(l.item);
     if item == 0 {
         return n == fixed;
     }

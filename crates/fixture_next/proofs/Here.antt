@@ -7,7 +7,7 @@ use native.Mathlib.Omega.{arith}
 use lib.ListN.{length, get_or, drop, length-drop, drop_of_length-le}
 use lib.Dec.{eqb, leb}
 use borrow.Author.Tests.{eqb-true, leb-true, not-false}
-use Rattle.refusal.specs.declared.Refusal.TheVariants.{Accepted}
+use Rattle.refusal.specs.Answer.{Accepted}
 use Rattle.fixture_spec.specs.declared.Layout.{Layout}
 use Rattle.fixture_spec.specs.Fields.{Field, size_of, payload_of, fields_from, is_solid, known_tag, layout_of, fixed_bytes, right_size, field_refusal, first_refusal}
 use Rattle.fixture_spec.specs.Solids.{Settings, settings_after}

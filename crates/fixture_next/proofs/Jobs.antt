@@ -20,7 +20,7 @@ use Rattle.fixture_solid.proofs.Arms.{afresh}
 use Rattle.fixture_next.specs.declared.job.NextJob.{NextJob}
 use Rattle.fixture_next.specs.Ready.{Ready, jobs_at}
 use Rattle.fixture_next.specs.Next.{next_solid, reached, IsNext, ops_from}
-use Rattle.fixture_next.specs.Job.{joined, job_in, IsJob}
+use Rattle.fixture_next.specs.Job.{joined, job_in, Found}
 use Rattle.fixture_next.proofs.Here.{ready_next}
 use Rattle.fixture_next.proofs.Sixteen.{chosen, ops_after}
 
@@ -89,20 +89,9 @@ module _ (file : List ℕ) (from : ℕ) (options : TessellationOptions) (default
   here = jobs_next (fresh_settings options default) (fields_from 0 (drop from file)) ∙ ap (jobs_from held) (sym is.fields)
 
   -- no other solid
-  none_left : length file ≤ at → jobs_at file from options default ≡ []
+  pub no_job : length file ≤ at → jobs_at file from options default ≡ []
   unfolding fields_from jobs_from
-  none_left h = here ∙ ap (λ (l : List ℕ). jobs_from held (fields_from 0 l)) (drop_of_length-le file h)
-
-  pub no_job : length file ≤ at → (f : SolidField) (r : NextJob) → f.list_at ≡ 0 → f.list_floats ≡ 0 → r ≡ joined false s f
-      → IsJob file from options default r
-  no_job h f r a b e = record {
-    more = λ t. let no : false ≡ true = sym (ap (λ (j : NextJob). j.found) e) ∙ t in cc;
-    none = λ _. none_left h;
-    onward = λ t. let no : false ≡ true = sym (ap (λ (j : NextJob). j.found) e) ∙ t in let z : ◌≡◌ {A = ℕ} 0 1 = cc in omega arith;
-    ready = λ t. let no : false ≡ true = sym (ap (λ (j : NextJob). j.found) e) ∙ t in absurd (let z : ◌≡◌ {A = ℕ} 0 1 = cc in omega arith);
-    inside = omega (arith, ap (λ (j : NextJob). j.list_at) e, ap (λ (j : NextJob). j.list_floats) e);
-    few = omega (arith, ap (λ (j : NextJob). j.list_floats) e);
-  }
+  no_job h = here ∙ ap (λ (l : List ℕ). jobs_from held (fields_from 0 l)) (drop_of_length-le file h)
 
   module _ (h : at < length file) (f : SolidField) (field : IsField file at f) where
     abbrev listed : List ℕ
@@ -117,7 +106,7 @@ module _ (file : List ℕ) (from : ℕ) (options : TessellationOptions) (default
         ∙ ap (λ (fs : List Field). record { tag = get_or file at 0; after = drop (at + 1) file } ∷ fs)
         (behind_is file at (size_of (drop (at + 1) file)) refl ∙ ap (λ (k : ℕ). fields_from 0 (drop k file)) (sym field.next))
 
-    found_job : jobs_at file from options default ≡ job_in file from (joined true s f) ∷ jobs_at file f.next s.options s.default
+    found_job : jobs_at file from options default ≡ job_in file from (joined s f) ∷ jobs_at file f.next s.options s.default
     unfolding job_of job_in
     found_job =
         here
@@ -128,12 +117,11 @@ module _ (file : List ℕ) (from : ℕ) (options : TessellationOptions) (default
         (sym is.settings i).degrees (ops_any file from options default i) (sym is.settings i).count
         ∷ jobs_at file f.next (sym is.settings i).options (sym is.settings i).default)
 
-    pub one_job : (r : NextJob) → r ≡ joined true s f → IsJob file from options default r
+    pub one_job : (r : NextJob) → r ≡ joined s f → Found file from options default r
     one_job r e = record {
-      more = λ _. found_job ∙ sym (ap (λ (j : NextJob). job_in file from j ∷ jobs_at file j.next j.options j.default) e);
-      none = λ t. let no : true ≡ false = sym (ap (λ (j : NextJob). j.found) e) ∙ t in cc;
-      onward = λ _. omega (arith, is.onward, field.next, ap (λ (j : NextJob). j.next) e);
-      ready = λ _. ready_at (ap (λ (j : NextJob). j.next) e ∙ field.next);
+      more = found_job ∙ sym (ap (λ (j : NextJob). job_in file from j ∷ jobs_at file j.next j.options j.default) e);
+      onward = omega (arith, is.onward, field.next, ap (λ (j : NextJob). j.next) e);
+      ready = ready_at (ap (λ (j : NextJob). j.next) e ∙ field.next);
       inside = omega (arith, field.inside, ap (λ (j : NextJob). j.list_at) e, ap (λ (j : NextJob). j.list_floats) e);
       few = omega (arith, field.inside, is.ready.short, ap (λ (j : NextJob). j.list_floats) e);
     }

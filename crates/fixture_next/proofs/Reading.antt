@@ -6,7 +6,7 @@ use Prim.Native.Nat.{ℕ, ◌+◌, ◌≤◌, ◌<◌}
 use native.Mathlib.Omega.{arith}
 use lib.ListN.{length, get_or, drop}
 use Rattle.shape.specs.declared.CoordSystem.{CoordSystem}
-use Rattle.shape.specs.declared.OwnSystem.TheVariants.{Inherited}
+use Rattle.std.specs.Prelude.{None}
 use Rattle.shape.specs.declared.TessellationOptions.{TessellationOptions}
 use Rattle.fixture_spec.specs.Fields.{size_of, fields_from, is_solid}
 use Rattle.fixture_spec.specs.Solids as Solids
@@ -26,7 +26,7 @@ pub record Reading (file : List ℕ) (from : ℕ) (options : TessellationOptions
   same : reached file from options default ≡ next_solid x (fields_from 0 (drop at file))
 
 module _ (file : List ℕ) (from : ℕ) (options : TessellationOptions) (default : CoordSystem) where
-  pub start : Ready file from → Reading file from options default from (counted options default Inherited false 0)
+  pub start : Ready file from → Reading file from options default from (counted options default None false 0)
   start ready = record {
     ready = ready;
     few = omega arith;

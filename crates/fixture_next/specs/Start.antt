@@ -1,8 +1,8 @@
 -- The start of a walk over the solids of a file that is accepted. Assumes nothing.
 use Rattle.std.specs.Prelude.{◌≡◌, refl, Bool, true, false, not, cond, List, ℕ, length, ltb}
 use Rattle.std.proofs.Common.{sym, ap, ◌∙◌, arith, ltb-false}
-use Rattle.refusal.specs.declared.Refusal.{Refusal}
-use Rattle.refusal.specs.declared.Refusal.TheVariants.{Accepted, BrokenField, NoSolid}
+use Rattle.refusal.specs.Answer.{Answer}
+use Rattle.refusal.specs.Answer.{Accepted, BrokenField, NoSolid}
 use Rattle.refusal.specs.Accepted.{is_accepted, or_else}
 use Rattle.refusal.specs.Laws.{accepted_is}
 use Rattle.shape.specs.declared.CoordSystem.TheVariants.{Cartesian}
@@ -11,7 +11,7 @@ use Rattle.fixture_spec.specs.Solids.{jobs_of}
 use Rattle.fixture_next.specs.Ready.{Ready, jobs_at}
 
 -- of two refusals neither is due
-pub first_accepted : (r s : Refusal) → or_else r s ≡ Accepted → r ≡ Accepted
+pub first_accepted : (r s : Answer) → or_else r s ≡ Accepted → r ≡ Accepted
 unfolding or_else
 first_accepted r s h = go (is_accepted r) refl h
   where
@@ -19,9 +19,9 @@ first_accepted r s h = go (is_accepted r) refl h
     go true e i = accepted_is r e
     go false e i = i
 
-pub second_accepted : (r s : Refusal) → r ≡ Accepted → or_else r s ≡ Accepted → s ≡ Accepted
+pub second_accepted : (r s : Answer) → r ≡ Accepted → or_else r s ≡ Accepted → s ≡ Accepted
 unfolding or_else
-second_accepted r s e h = sym (ap (λ (x : Refusal). cond (is_accepted x) s x) e) ∙ h
+second_accepted r s e h = sym (ap (λ (x : Answer). cond (is_accepted x) s x) e) ∙ h
 
 -- a file that is accepted can be read from its start
 pub ready_start : (file : List ℕ) → file_refusal file ≡ Accepted → Ready file 0

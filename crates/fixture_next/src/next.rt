@@ -5,7 +5,7 @@ ghost use Rattle.fixture_next.specs.Next as Next;
 use fixture_field::is_solid;
 use fixture_payload::payload_at;
 use fixture_solid::{Settings, settings_after};
-use shape::{CoordSystem, OwnSystem, TessellationOptions};
+use shape::{CoordSystem, TessellationOptions};
 
 // The place of a solid's tag, and its settings.
 #[derive(Clone, Copy)]
@@ -28,10 +28,11 @@ pub fn next_solid(
     let mut s = Settings {
         options,
         default,
-        own: OwnSystem::Inherited,
+        own: None,
         degrees: false,
         count: 0,
     };
+    // A `while`: a field says itself how far the next one is, so no range counts them; an iterator of fields would be this step and its laws.
     while at < file.len() {
         let tag = file[at];
         if is_solid(tag) {

@@ -28,6 +28,7 @@ pub fn next_ops(file: &[u8], at: usize) -> [TransformOp; 16]
     let mut ops = [none; 16];
     let mut count = 0;
     let mut place = at;
+    // A `while`: a field says itself how far the next one is, so no range counts them; an iterator of fields would be this step and its laws.
     while place < file.len() {
         let tag = file[place];
         if is_solid(tag) {

@@ -9,8 +9,8 @@ use lib.ListN.{length, take, drop, replicate}
 use lib.Seq.{drop-drop}
 use lib.Dec.{ltb}
 use borrow.Author.Tests.{lt-ltb, le-ltb}
-use Rattle.refusal.specs.declared.Refusal.{Refusal}
-use Rattle.refusal.specs.declared.Refusal.TheVariants.{Accepted, NoRoom}
+use Rattle.refusal.specs.Answer.{Answer}
+use Rattle.refusal.specs.Answer.{Accepted, NoRoom}
 use Rattle.slice_bytes.specs.Bytes.{with_word}
 use Rattle.slice_byte_lists.specs.Lists.{words_of, bytes_of_words}
 use Rattle.slice_byte_turn.specs.Turn.{ZeroBefore}

@@ -1,7 +1,7 @@
 -- How the mesh of the solids so far lies in the planner's output, and what adding a mesh and the end make of it. Definitions only.
 use Rattle.std.specs.Prelude.{◌≡◌, cond, List, ◌++◌, reverse, ℕ, ◌+◌, ◌-◌, ◌*◌, ◌%◌, ◌≤◌, ◌<◌, length, get_or, replicate, Float}
-use Rattle.refusal.specs.declared.Refusal.{Refusal}
-use Rattle.refusal.specs.declared.Refusal.TheVariants.{Accepted, NoRoom}
+use Rattle.refusal.specs.Answer.{Answer}
+use Rattle.refusal.specs.Answer.{Accepted, NoRoom}
 use Rattle.slice_byte_lists.specs.Lists.{bytes_of_floats, bytes_of_words}
 use Rattle.slice_bytes_law.specs.Lists.{AllWords}
 use Rattle.mesh_balance_spec.specs.Buffer.{flat, tris}
@@ -63,11 +63,11 @@ pub record Finishes (out : List ℕ) (vertices triangles : ℕ) : Type 0 where
   pub laid : Laid mesh (length out) out
 
 -- where the output held a mesh of these counts: 7 and zeros where it is too short for its bytes, else the bytes, and zeros after them
-pub record Ended (m : Mesh) (n : ℕ) (r : Refusal) (out : List ℕ) : Type 0 where
+pub record Ended (m : Mesh) (n : ℕ) (r : Answer) (out : List ℕ) : Type 0 where
   pub refusal : r ≡ cond (short_output m n) NoRoom Accepted
   pub output : out ≡ cond (short_output m n) (replicate n 0) (output_of m n)
 
-abbrev pub Finished : List ℕ → ℕ → ℕ → Refusal → List ℕ → Type 0
+abbrev pub Finished : List ℕ → ℕ → ℕ → Answer → List ℕ → Type 0
 Finished out vertices triangles r out' =
     (m : Mesh) → length m.vertices ≡ vertices → length m.triangles ≡ triangles
     → Laid m (length out) out → Ended m (length out) r out'

@@ -3,6 +3,7 @@
 #![tactic(auto)]
 
 ghost use Rattle.std.specs.Prelude.{◌≡◌, length, replicate};
+ghost use Rattle.refusal.specs.Answer.{answer_of};
 ghost use Rattle.fixture_output.specs.Laid.{Adds, Added, Finishes, Finished};
 
 use refusal::Refusal;
@@ -11,11 +12,7 @@ use refusal::Refusal;
 pub fn clear(out: &mut [u8])
     ensures { out.new ≡ replicate (length out.old) 0 }
 {
-    let mut i = 0;
-    while i < out.len() {
-        out[i] = 0;
-        i += 1;
-    }
+    slice::clear_from(out, 0, 0);
 }
 
 // A mesh joins the one of so many vertices and triangles that the output holds, where both have room.
@@ -40,18 +37,18 @@ pub fn add(
 }
 
 // The counts, and the triangles to their place behind the vertices; or refusal 7 and zeros.
-pub fn finish(out: &mut [u8], vertex_count: usize, triangle_count: usize) -> Refusal
+pub fn finish(out: &mut [u8], vertex_count: usize, triangle_count: usize) -> Result<(), Refusal>
     requires { Finishes out.old vertex_count triangle_count }
-    ensures { Finished out.old vertex_count triangle_count result out.new }
+    ensures { Finished out.old vertex_count triangle_count (answer_of result) out.new }
 {
     let at = 8 + 24 * vertex_count;
     if out.len() < at + 12 * triangle_count {
         clear(out);
-        return Refusal::NoRoom;
+        return Err(Refusal::NoRoom);
     }
     let end = out.len() - out.len() % 4;
     slice_byte_turn::turn_words(&mut out[at..end], 3 * triangle_count);
     slice_bytes::put_word(out, 0, vertex_count as u32);
     slice_bytes::put_word(out, 4, triangle_count as u32);
-    Refusal::Accepted
+    Ok(())
 }

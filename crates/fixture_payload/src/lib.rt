@@ -1,10 +1,9 @@
 // The payload of a field, from the bytes behind its tag: its length, its first byte, all of it.
+// No struct of a field: its tag, length and payload are read from the file's bytes at its place, so there is nothing to hold beside the place.
 #![tactic(auto)]
 
 ghost use Rattle.std.specs.Prelude.{◌≡◌, ◌+◌, ◌<◌, ◌≤◌, length, get_or, drop};
 ghost use Rattle.fixture_spec.specs.Fields as Fields;
-
-use fixture_layout::wide;
 
 // The number of two bytes at place at.
 pub fn count_at(b: &[u8], at: usize) -> usize
@@ -12,7 +11,7 @@ pub fn count_at(b: &[u8], at: usize) -> usize
     ensures { (result ≡ Fields.count_at b.now at) × (result < 65536) }
 {
     let high = at + 1;
-    wide(b[at]) + 256 * wide(b[high])
+    usize::from(b[at]) + 256 * usize::from(b[high])
 }
 
 // The length of the payload, from the two bytes behind the tag.

@@ -9,7 +9,7 @@ use lib.Dec.{eqb, leb}
 use borrow.Author.Tests.{leb-true, ne_eqb}
 use Rattle.slice_law.specs.Arms.{of_kind, Not}
 use Rattle.transform.specs.declared.TransformOp.{TransformOp}
-use Rattle.shape.specs.declared.OwnSystem.TheVariants.{Inherited}
+use Rattle.std.specs.Prelude.{None}
 use Rattle.fixture_spec.specs.declared.Layout.{Layout}
 use Rattle.fixture_spec.specs.Fields.{is_solid, layout, layout_of, fixed_bytes}
 use Rattle.fixture_spec.specs.Solids.{Settings, fresh_settings, settings_after}
@@ -89,8 +89,8 @@ after_kind s j p keys e few held = record {
 
 -- the arm of the other tags
 pub after_other : (s : Code.Settings) {k : ℕ} (p : List ℕ) {r : Code.Settings} → ((((Unit {0} × Not k 1) × Not k 2) × Not k 3) × Not k 4) × Not k 5
-    → r ≡ counted s.options s.default Inherited false 0 → After s k p r
+    → r ≡ counted s.options s.default None false 0 → After s k p r
 after_other s {k} p rest e = record {
-  held = λ x h. e ∙ (λ i. counted (h i).options (h i).default Inherited false 0) ∙ sym (ap plain (other x k p rest));
+  held = λ x h. e ∙ (λ i. counted (h i).options (h i).default None false 0) ∙ sym (ap plain (other x k p rest));
   few = omega (arith, ap (λ (y : Code.Settings). y.count) e);
 }

@@ -2,7 +2,7 @@
 use Rattle.std.specs.Prelude.{ℕ, ◌+◌, ◌*◌, ◌/◌, ◌≤◌, ◌≡◌, Bool, true, List, length, get_or, drop}
 use Rattle.slice_byte_lists.specs.Lists.{floats_of}
 use Rattle.shape.specs.declared.CoordSystem.{CoordSystem}
-use Rattle.shape.specs.declared.OwnSystem.{OwnSystem}
+use Rattle.std.specs.Prelude.{Option}
 use Rattle.shape.specs.declared.TessellationOptions.{TessellationOptions}
 use Rattle.fixture_spec.specs.declared.Layout.{Layout}
 use Rattle.fixture_spec.specs.Fields.{count_at, size_of, payload_of, is_solid, layout_of, fixed_bytes}
@@ -28,7 +28,7 @@ options_of p = record { segments = count_at p 0; sphere_rings = count_at p 2 }
 -- ---- settings
 
 -- the settings with a count of operations in place of the operations
-abbrev pub counted : TessellationOptions → CoordSystem → OwnSystem → Bool → ℕ → Settings
+abbrev pub counted : TessellationOptions → CoordSystem → Option CoordSystem → Bool → ℕ → Settings
 counted options default own degrees count = record { options = options; default = default; own = own; degrees = degrees; count = count }
 
 abbrev pub plain : Solids.Settings → Settings

@@ -5,9 +5,10 @@ ghost use Rattle.fixture_solid.specs.Field as Field;
 
 use crate::Settings;
 use fixture_payload::count_at;
-use shape::{CoordSystem, OwnSystem, TessellationOptions};
+use shape::{CoordSystem, TessellationOptions};
 
 // A system by its byte.
+// Not From<u8> for CoordSystem: a byte is a system in more than one way (1 is the Cartesian one in own_system of crate replay_head).
 fn system_of(x: u8) -> CoordSystem
     ensures { result ≡ Solids.system_of x }
 {
@@ -29,46 +30,38 @@ fn options_of(p: &[u8]) -> TessellationOptions
     }
 }
 
-fn settings(
-    options: TessellationOptions,
-    default: CoordSystem,
-    own: OwnSystem,
-    degrees: bool,
-    count: usize,
-) -> Settings
-    ensures { result ≡ Field.counted options default own degrees count }
-{
-    Settings {
-        options,
-        default,
-        own,
-        degrees,
-        count,
-    }
-}
-
 // The settings after a field with the payload p.
 pub fn settings_after(s: Settings, tag: u8, p: &[u8]) -> Settings
     requires { Field.Sound tag p.now × (s.count < 65536) }
     ensures { Field.After s tag p.now result }
 {
-    let options = s.options;
-    let default = s.default;
-    let own = s.own;
-    let degrees = s.degrees;
-    let count = s.count;
+    // A match on the tag: a closure for each tag would be chosen by this same match.
     match tag {
-        0x01 => settings(options_of(p), default, own, degrees, count),
-        0x02 => settings(options, system_of(p[0]), own, degrees, count),
-        0x03 => settings(
-            options,
-            default,
-            OwnSystem::Own(system_of(p[0])),
-            degrees,
-            count,
-        ),
-        0x04 => settings(options, default, own, p[0] == 1, count),
-        0x05 => settings(options, default, own, degrees, count + 1),
-        _ => settings(options, default, OwnSystem::Inherited, false, 0),
+        0x01 => Settings {
+            options: options_of(p),
+            ..s
+        },
+        0x02 => Settings {
+            default: system_of(p[0]),
+            ..s
+        },
+        0x03 => Settings {
+            own: Some(system_of(p[0])),
+            ..s
+        },
+        0x04 => Settings {
+            degrees: p[0] == 1,
+            ..s
+        },
+        0x05 => Settings {
+            count: s.count + 1,
+            ..s
+        },
+        _ => Settings {
+            own: None,
+            degrees: false,
+            count: 0,
+            ..s
+        },
     }
 }

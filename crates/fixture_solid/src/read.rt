@@ -4,7 +4,7 @@ ghost use Rattle.fixture_spec.specs.Fields as Fields;
 ghost use Rattle.fixture_spec.specs.Solids as Solids;
 ghost use Rattle.fixture_solid.specs.Field as Field;
 
-use fixture_layout::{layout_of, wide};
+use fixture_layout::layout_of;
 use fixture_spec::Layout;
 use shape::Shape;
 use transform::TransformOp;
@@ -21,8 +21,8 @@ fn numbers_of(l: Layout, p: &[u8]) -> [f64; 10]
     requires { Field.Numbers l p.now }
     ensures { result ≡ Solids.numbers_of l p.now }
 {
-    let from = wide(l.bytes);
-    let n = wide(l.floats);
+    let from = usize::from(l.bytes);
+    let n = usize::from(l.floats);
     let mut numbers = [0.0; 10];
     slice_byte_lists::get_floats(&p[from..], &mut numbers[..n]);
     numbers

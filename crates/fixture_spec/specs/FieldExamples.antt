@@ -11,16 +11,15 @@ use Rattle.transform.specs.Ops.{no_op}
 use Rattle.transform_bytes.specs.Layout.{op_floats, op_of_kind}
 use Rattle.shape.specs.declared.Shape.TheVariants.{Box, RotPoly, Wire}
 use Rattle.shape.specs.declared.CoordSystem.{CoordSystem}
-use Rattle.shape.specs.declared.OwnSystem.{OwnSystem}
+use Rattle.std.specs.Prelude.{None, Option, Some}
 use Rattle.shape.specs.declared.CoordSystem.TheVariants.{Cartesian, Cylindrical}
-use Rattle.shape.specs.declared.OwnSystem.TheVariants.{Inherited, Own}
 use Rattle.shape.specs.Drawing.{items_of}
 use Rattle.shape.specs.declared.Items.{Items}
 use Rattle.shape.specs.declared.Items.TheVariants.{NoItems, Corners, Points, Boxes}
 use Rattle.shape_fields.specs.Fields.{pointed, shape_of}
 use Rattle.tessellate_spec.specs.Outcome.{Job}
-use Rattle.refusal.specs.declared.Refusal.{Refusal}
-use Rattle.refusal.specs.declared.Refusal.TheVariants.{Accepted, BrokenField, UnknownField, NoSolid}
+use Rattle.refusal.specs.Answer.{Answer}
+use Rattle.refusal.specs.Answer.{Accepted, BrokenField, UnknownField, NoSolid}
 use Rattle.refusal.specs.Accepted.{or_else}
 use Rattle.fixture_spec.specs.Fields.{count_at, size_of, payload_of, fields_from, is_solid, known_tag, known_first, layout_of, fixed_bytes, right_size}
 use Rattle.fixture_spec.specs.Fields.{field_refusal, first_refusal, any_solid, file_refusal}
@@ -62,7 +61,7 @@ abbrev counts : Bytes
 counts = 0x01 ∷ 4 ∷ 0 ∷ 2 ∷ 1 ∷ 5 ∷ 0 ∷ []
 
 -- file_refusal and jobs_of, with what it takes to compute them
-unfoldable judged : Bytes → Refusal
+unfoldable judged : Bytes → Answer
 unfolding file_refusal or_else first_refusal any_solid field_refusal fields_from count_at size_of payload_of is_solid known_tag known_first op_floats layout_of fixed_bytes
     right_size
 judged = file_refusal
@@ -108,7 +107,7 @@ box_job : jobs_of box_file
     ≡ record {
       shape = Box (new (float 0) (float 0) (float 0)) (new (float 1) (float 2) (float 3));
       list = [];
-      own = Inherited;
+      own = None;
       default = Cartesian;
       options = record { segments = 32; sphere_rings = 16 };
       degrees = false;
@@ -123,7 +122,7 @@ rotated_job : jobs_of (counts ++ one 0x02 1 ++ one 0x03 0 ++ one 0x04 1 ++ turn 
     ≡ record {
       shape = RotPoly 2 (float 1) 1 (float 2) (float 3);
       list = float 0 ∷ float 1 ∷ [];
-      own = Own Cartesian;
+      own = Some Cartesian;
       default = Cylindrical;
       options = record { segments = 258; sphere_rings = 5 };
       degrees = true;
@@ -258,7 +257,7 @@ segments_hold : map (λ (j : Job). j.options.segments) two_boxes ≡ 258 ∷ 258
 unfolding decoded
 segments_hold = refl
 
-own_serves_one : map (λ (j : Job). j.own) two_boxes ≡ Own Cylindrical ∷ Inherited ∷ []
+own_serves_one : map (λ (j : Job). j.own) two_boxes ≡ Some Cylindrical ∷ None ∷ []
 unfolding decoded
 own_serves_one = refl
 
@@ -271,9 +270,9 @@ unfolding decoded
 operations_serve_one = refl
 
 -- a second 03 or 04 replaces the first; 02 replaces 02 from there on
-replaced : map {B = CoordSystem × OwnSystem × Bool} (λ (j : Job). (j.default, j.own, j.degrees))
+replaced : map {B = CoordSystem × Option CoordSystem × Bool} (λ (j : Job). (j.default, j.own, j.degrees))
     (jobs_of (box_file ++ one 0x02 1 ++ one 0x03 1 ++ one 0x03 0 ++ one 0x04 1 ++ one 0x04 0 ++ box_file))
-    ≡ (Cartesian, Inherited, false) ∷ (Cylindrical, Own Cartesian, false) ∷ []
+    ≡ (Cartesian, None, false) ∷ (Cylindrical, Some Cartesian, false) ∷ []
 unfolding decoded
 replaced = refl
 

@@ -4,14 +4,14 @@
 -- - Fields.antt: a file is its list of bytes. `fields_of` cuts it into fields, each a tag and all bytes of the file behind that tag. The next field begins
 --   behind the payload, which is as long as the two length bytes say; a file is so cut whether or not its fields are sound. `field_refusal` judges one field, 10
 --   before 9; `file_refusal` judges the file: its length, its fields in order, then 11. What follows the first refusal does not count.
--- - Solids.antt: `jobs_of` gives the solids of a file that is not refused, each as a `Job`, the arguments of `tessellate`, with the settings that hold for it.
+-- - Solids.antt: `jobs_of` gives the solids of a file that is not refused, each as a `Job`, what `tessellate` draws, with the settings that hold for it.
 -- - Output.antt: the planner's bytes of a mesh, and the mesh of such bytes.
 -- - Outcome.antt: `fixture_of`, the outcome of the planner's call for every file and every length of its output: what `tessellate` gives for each solid,
 --   appended in order, as bytes; or the first refusal, and zeros.
 -- Tags are hexadecimal throughout, as in the request.
 use Rattle.std.specs.Prelude.{ℕ, zero, suc, ◌+◌, ◌*◌, ◌-◌, ◌%◌, Bool, true, false, not, ◌&&◌, ◌||◌, cond, List, [], ◌∷◌, length, get_or, take, drop, eqb, leb, ltb}
-use Rattle.refusal.specs.declared.Refusal.{Refusal}
-use Rattle.refusal.specs.declared.Refusal.TheVariants.{Accepted, BrokenField, UnknownField, NoSolid}
+use Rattle.refusal.specs.Answer.{Answer}
+use Rattle.refusal.specs.Answer.{Accepted, BrokenField, UnknownField, NoSolid}
 use Rattle.refusal.specs.Accepted.{or_else}
 use Rattle.transform_bytes.specs.Layout.{op_floats}
 use Rattle.fixture_spec.specs.declared.Layout.{Layout}
@@ -101,7 +101,7 @@ right_size l n =
 -- ---- the refusals in their order
 
 -- one field: 10 as far as the bytes are there, then 9
-unfoldable pub field_refusal : ℕ → List ℕ → Refusal
+unfoldable pub field_refusal : ℕ → List ℕ → Answer
 field_refusal tag after =
     let payload = payload_of after in
     cond (not (known_tag tag)) UnknownField
@@ -112,7 +112,7 @@ field_refusal tag after =
     Accepted))))
 
 -- the refusal of the first field that is refused
-unfoldable pub first_refusal : List Field → Refusal
+unfoldable pub first_refusal : List Field → Answer
 first_refusal [] = Accepted
 first_refusal (f ∷ fs) = or_else (field_refusal f.tag f.after) (first_refusal fs)
 
@@ -121,7 +121,7 @@ any_solid [] = false
 any_solid (f ∷ fs) = is_solid f.tag || any_solid fs
 
 -- the file: 9 where it is longer than 65,535 bytes, its fields in order, then 11
-unfoldable pub file_refusal : List ℕ → Refusal
+unfoldable pub file_refusal : List ℕ → Answer
 file_refusal file =
     cond (ltb 65535 (length file)) BrokenField
     (or_else (first_refusal (fields_of file))

@@ -1,7 +1,7 @@
 -- The outcome of the planner's call on a file, for every file and every length of the output (docs/SCOPE.md, "Fixtures in a file"). Definitions only.
 use Rattle.std.specs.Prelude.{Bool, cond, List, [], ◌∷◌, ◌++◌, ℕ, ◌-◌, length, replicate, ltb}
-use Rattle.refusal.specs.declared.Refusal.{Refusal}
-use Rattle.refusal.specs.declared.Refusal.TheVariants.{Accepted, NoRoom}
+use Rattle.refusal.specs.Answer.{Answer}
+use Rattle.refusal.specs.Answer.{Accepted, NoRoom}
 use Rattle.refusal.specs.Accepted.{is_accepted, or_else}
 use Rattle.mesh_spec.specs.Mesh.{Mesh, no_mesh, append}
 use Rattle.mesh_check.specs.State.{mesh_of}
@@ -27,7 +27,7 @@ unfolding drawn
 drawn_mesh j = mesh_of (drawn j).state
 
 -- the refusal of the first solid that is refused
-unfoldable pub solids_refusal : List Job → Refusal
+unfoldable pub solids_refusal : List Job → Answer
 unfolding drawn
 solids_refusal [] = Accepted
 solids_refusal (j ∷ js) = or_else (drawn j).refusal (solids_refusal js)
@@ -45,7 +45,7 @@ unfoldable pub fixture_mesh : List ℕ → Mesh
 fixture_mesh file = appended no_mesh (jobs_of file)
 
 -- why no mesh comes of a file: 9, 10 and 11, then the solids in order
-unfoldable pub open_refusal : List ℕ → Refusal
+unfoldable pub open_refusal : List ℕ → Answer
 open_refusal file = or_else (file_refusal file) (solids_refusal (jobs_of file))
 
 -- ---- the planner's call
@@ -55,7 +55,7 @@ unfoldable pub short_output : Mesh → ℕ → Bool
 short_output m n = ltb n (length (bytes_of m))
 
 -- why the planner's call is refused, with an output of n bytes
-unfoldable pub plan_refusal : List ℕ → ℕ → Refusal
+unfoldable pub plan_refusal : List ℕ → ℕ → Answer
 plan_refusal file n = or_else (open_refusal file) (cond (short_output (fixture_mesh file) n) NoRoom Accepted)
 
 -- the bytes of a mesh, and zeros after them up to n
@@ -64,7 +64,7 @@ output_of m n = bytes_of m ++ replicate (n - length (bytes_of m)) 0
 
 -- the refusal, or none, and the whole output
 pub record FixtureOutcome : Type 0 where
-  pub refusal : Refusal
+  pub refusal : Answer
   pub output : List ℕ
 
 -- the planner's call on a file, with an output of n bytes: refused, all of it is zero

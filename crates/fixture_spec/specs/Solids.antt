@@ -13,8 +13,7 @@ use Rattle.transform_bytes.specs.Layout.{op_of_kind}
 use Rattle.shape.specs.declared.Shape.{Shape}
 use Rattle.shape.specs.declared.CoordSystem.{CoordSystem}
 use Rattle.shape.specs.declared.CoordSystem.TheVariants.{Cartesian, Cylindrical}
-use Rattle.shape.specs.declared.OwnSystem.{OwnSystem}
-use Rattle.shape.specs.declared.OwnSystem.TheVariants.{Inherited, Own}
+use Rattle.std.specs.Prelude.{None, Option, Some}
 use Rattle.shape.specs.declared.TessellationOptions.{TessellationOptions}
 use Rattle.shape_fields.specs.Fields.{shape_of}
 use Rattle.tessellate_spec.specs.Outcome.{Job}
@@ -26,16 +25,16 @@ use Rattle.fixture_spec.specs.Fields.{Field, count_at, payload_of, fields_of, is
 pub record Settings : Type 0 where
   pub options : TessellationOptions
   pub default : CoordSystem
-  pub own : OwnSystem
+  pub own : Option CoordSystem
   pub degrees : Bool
   pub ops : List TransformOp
 
-abbrev pub settings : TessellationOptions → CoordSystem → OwnSystem → Bool → List TransformOp → Settings
+abbrev pub settings : TessellationOptions → CoordSystem → Option CoordSystem → Bool → List TransformOp → Settings
 settings options default own degrees ops = record { options = options; default = default; own = own; degrees = degrees; ops = ops }
 
 -- nothing yet for the next solid: no system of its own, radians, no operations
 abbrev pub fresh_settings : TessellationOptions → CoordSystem → Settings
-fresh_settings options default = settings options default Inherited false []
+fresh_settings options default = settings options default None false []
 
 -- the settings at the start of a file: 32 segments, 16 rings, Cartesian
 abbrev pub start_settings : Settings
@@ -55,7 +54,7 @@ unfolding count_at
 settings_after s tag p =
     cond (eqb tag 0x01) (settings (record { segments = count_at p 0; sphere_rings = count_at p 2 }) s.default s.own s.degrees s.ops)
     (cond (eqb tag 0x02) (settings s.options (system_of (get_or p 0 0)) s.own s.degrees s.ops)
-    (cond (eqb tag 0x03) (settings s.options s.default (Own (system_of (get_or p 0 0))) s.degrees s.ops)
+    (cond (eqb tag 0x03) (settings s.options s.default (Some (system_of (get_or p 0 0))) s.degrees s.ops)
     (cond (eqb tag 0x04) (settings s.options s.default s.own (eqb (get_or p 0 0) 1) s.ops)
     (cond (eqb tag 0x05) (settings s.options s.default s.own s.degrees (s.ops ++ (op_of p ∷ [])))
     (fresh_settings s.options s.default)))))
@@ -79,7 +78,7 @@ list_bytes tag p = drop (fixed_bytes (layout_of tag 0)) p
 unfoldable pub sixteen : List TransformOp → List TransformOp
 sixteen ops = take 16 (ops ++ no_ops)
 
--- the arguments of `tessellate`; where there are more than sixteen operations the count says so
+-- what `tessellate` draws; where there are more than sixteen operations the count says so
 unfoldable pub job_of : Settings → ℕ → List ℕ → Job
 job_of s tag p = record {
   shape = solid_of tag p;

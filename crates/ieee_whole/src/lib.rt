@@ -7,7 +7,7 @@ ghost use Rattle.std.specs.Float.{binary64, fin};
 ghost use Rattle.ieee_whole.specs.Whole.{ceiling, whole_of, nearest_magnitude, mod4};
 
 // A whole number as a float, and that number modulo 4.
-#[derive(Clone, Copy)]
+#[derive(Clone, Copy, Debug, PartialEq)]
 pub struct Whole {
     pub value: f64,
     pub mod_4: u64,
@@ -46,10 +46,10 @@ pub fn ceil_to_usize(y: f64) -> usize
 
 // The whole number nearest to a, which is not negative, a half going up.
 fn half_up(a: f64) -> u64
-    requires fact_1 { T (Ieee.le (fin false 0 (pos 0)) a) }
-    requires fact_2 { T (Ieee.lt a (fin false 1 (pos 52))) }
-    ensures fact_1 { result ≡ nearest_magnitude a }
-    ensures fact_2 { result ≤ 2 ^ 52 }
+    requires not_negative { T (Ieee.le (fin false 0 (pos 0)) a) }
+    requires below_all_whole { T (Ieee.lt a (fin false 1 (pos 52))) }
+    ensures nearest { result ≡ nearest_magnitude a }
+    ensures at_most_all_whole { result ≤ 2 ^ 52 }
 {
     (std::num::truncating_f64_to_u64(a + a) + 1) / 2
 }

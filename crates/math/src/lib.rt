@@ -3,10 +3,8 @@
 
 mod vec;
 
-pub use vec::{add, axis, div, is_finite, max, min, mul, sub, unit, with_axis};
-
 // A point or a direction.
-#[derive(Clone, Copy)]
+#[derive(Clone, Copy, Debug, PartialEq)]
 pub struct Vec3 {
     pub x: f64,
     pub y: f64,
@@ -14,7 +12,7 @@ pub struct Vec3 {
 }
 
 // The box from one corner to the other. It is empty where min is above max on an axis.
-#[derive(Clone, Copy)]
+#[derive(Clone, Copy, Debug, PartialEq)]
 pub struct BoundingBox {
     pub min: Vec3,
     pub max: Vec3,

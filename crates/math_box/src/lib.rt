@@ -13,20 +13,13 @@ pub fn empty_box() -> BoundingBox
     ensures { result ≡ Box.empty_box }
 {
     BoundingBox {
-        min: Vec3 {
-            x: 1.0 / 0.0,
-            y: 1.0 / 0.0,
-            z: 1.0 / 0.0,
-        },
-        max: Vec3 {
-            x: -1.0 / 0.0,
-            y: -1.0 / 0.0,
-            z: -1.0 / 0.0,
-        },
+        min: Vec3::new(1.0 / 0.0, 1.0 / 0.0, 1.0 / 0.0),
+        max: Vec3::new(-1.0 / 0.0, -1.0 / 0.0, -1.0 / 0.0),
     }
 }
 
-// f64::min where a is no NaN: one comparison decides.
+// f64::min where a is no NaN.
+// Not ieee::min, which tests for a NaN too: here, in the loop of a box, one comparison decides (docs/DECISIONS.md).
 fn lesser(a: f64, b: f64) -> f64
     requires { T (not (is_nan a)) }
     ensures { result ≡ minimum a b }
@@ -64,15 +57,12 @@ pub fn include(b: BoundingBox, p: Vec3) -> BoundingBox
 }
 
 // The lesser of each two least bounds, the greater of each two greatest.
+#[tactic(auto, unfolding(math::specs::Box::union))]
 pub fn union(a: BoundingBox, b: BoundingBox) -> BoundingBox
     ensures { result ≡ Box.union a b }
 {
-    let low = a.min;
-    let high = a.max;
-    let other_low = b.min;
-    let other_high = b.max;
     BoundingBox {
-        min: math::min(low, other_low),
-        max: math::max(high, other_high),
+        min: a.min.min(b.min),
+        max: a.max.max(b.max),
     }
 }

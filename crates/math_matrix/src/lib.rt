@@ -7,7 +7,7 @@ ghost use Rattle.math_matrix.specs.Mat as Mat;
 use math::Vec3;
 
 // A row of a matrix: what it takes of x, y, z and of w, which is 1 for a point.
-#[derive(Clone, Copy)]
+#[derive(Clone, Copy, Debug, PartialEq)]
 pub struct Row {
     pub x: f64,
     pub y: f64,
@@ -16,7 +16,7 @@ pub struct Row {
 }
 
 // Four rows of four numbers, row after row. The translation is in the last column.
-#[derive(Clone, Copy)]
+#[derive(Clone, Copy, Debug, PartialEq)]
 pub struct Mat4 {
     pub m: [f64; 16],
 }

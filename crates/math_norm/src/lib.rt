@@ -35,17 +35,14 @@ pub fn norm(a: Vec3) -> f64
 }
 
 // a scaled to length 1, or zero where the norm is not above 0.
+#[tactic(auto, unfolding(math::specs::Vec::normalized))]
 pub fn normalized(a: Vec3) -> Vec3
     ensures { result ≡ Vec.normalized a }
 {
     let n = norm(a);
     if n > 0.0 {
-        math::div(a, n)
+        a / n
     } else {
-        Vec3 {
-            x: 0.0,
-            y: 0.0,
-            z: 0.0,
-        }
+        Vec3::new(0.0, 0.0, 0.0)
     }
 }

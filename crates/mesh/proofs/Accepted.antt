@@ -1,5 +1,5 @@
 -- What an accepted append may rely on. Assumes nothing.
-use mathlib.Core.Path.{◌≡◌, refl, sym, ap, ◌∙◌}
+use mathlib.Core.Path.{◌≡◌, refl, sym, ap}
 use mathlib.Core.Bool.{Bool, true, false, ◌||◌, cond, false≢true}
 use Prim.Native.Nat.{ℕ, ◌+◌, ◌*◌, ◌≤◌, ◌<◌, ◌^◌}
 use native.Mathlib.Omega.{arith}
@@ -7,8 +7,10 @@ use lib.ListN.{length, get_or}
 use lib.Dec.{ltb}
 use borrow.Author.Tests.{ltb-false}
 use Rattle.mesh_spec.specs.Mesh.{append}
-use Rattle.refusal.specs.declared.Refusal.{Refusal}
-use Rattle.refusal.specs.declared.Refusal.TheVariants.{Accepted, NotFinite, NoRoom, BadMesh}
+use Rattle.std.specs.Prelude.{Ok}
+use Rattle.math.specs.declared.BoundingBox.{BoundingBox}
+use Rattle.refusal.specs.Answer.{Accepted, NotFinite, NoRoom, BadMesh, answer_with}
+use Rattle.refusal.specs.Laws.{answer_ok}
 use Rattle.slice.specs.Every.{counted_places}
 use Rattle.refusal.specs.Accepted.{is_accepted}
 use Rattle.mesh_check.specs.State.{State, mesh_of, bad_mesh, not_finite, bad_box, no_room, Sound}
@@ -34,7 +36,13 @@ pub record Appends (s o : State) : Type 0 where
   pub limit_t : s.mesh.triangles + o.mesh.triangles ≤ 4294967295
   pub fits : (i : ℕ) → i < 3 * o.mesh.triangles → get_or o.triangles i 0 + s.mesh.vertices < 2 ^ 32
 
-module _ (s o : State) (r : Refusal) (e : r ≡ append_refusal s o) (h : is_accepted r ≡ true) where
+module _ (s o : State) (b x : BoundingBox) (e : Ok x ≡ answer_with (append_refusal s o) b) where
+  pub unrefused : Accepted ≡ append_refusal s o
+  unrefused = sym (answer_ok (append_refusal s o) b x e).0
+
+  pub united : x ≡ b
+  united = (answer_ok (append_refusal s o) b x e).1
+
   abbrev short : Bool
   short = no_room (append (mesh_of s) (mesh_of o)) (length s.vertices) (length s.triangles)
 
@@ -42,11 +50,11 @@ module _ (s o : State) (r : Refusal) (e : r ≡ append_refusal s o) (h : is_acce
   unfolding append_refusal
   good =
       not_bad (bad_mesh s || bad_mesh o) (cond (not_finite s || not_finite o) NotFinite (cond (bad_box s || bad_box o) BadMesh (cond short NoRoom Accepted)))
-      (sym (ap {B = Bool} is_accepted e) ∙ h)
+      (sym (ap {B = Bool} is_accepted unrefused))
 
   roomy : short ≡ false
   unfolding append_refusal
-  roomy = last (bad_mesh s || bad_mesh o) (not_finite s || not_finite o) (bad_box s || bad_box o) short (sym (ap {B = Bool} is_accepted e) ∙ h)
+  roomy = last (bad_mesh s || bad_mesh o) (not_finite s || not_finite o) (bad_box s || bad_box o) short (sym (ap {B = Bool} is_accepted unrefused))
 
   sound_s : Sound s
   sound_s = sound s (neither (bad_mesh s) (bad_mesh o) good).0

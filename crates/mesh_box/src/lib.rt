@@ -2,7 +2,6 @@
 #![tactic(auto)]
 
 ghost use Rattle.std.specs.Prelude.{◌≡◌, ◌*◌, ◌≤◌, length, take};
-ghost use Rattle.mesh_spec.specs.Mesh.{same_point};
 ghost use Rattle.mesh_spec.specs.Slices.{points};
 ghost use Rattle.mesh_spec.specs.Measures.{plus_zero_box, box_of, same_box};
 ghost use Rattle.mesh_box.specs.FiniteBox.{finite_box};
@@ -11,8 +10,8 @@ ghost use Rattle.mesh_box.specs.ZeroBox.{zero_box};
 use math::{BoundingBox, Vec3};
 use mesh_triples::vertex;
 
-// What one pass over vertices tells: whether every coordinate is finite, and the box.
-#[derive(Clone, Copy)]
+// What one pass over vertices tells: whether every coordinate is finite, and the box. A struct and no option: `finite_box` promises the box in either case.
+#[derive(Clone, Copy, Debug, PartialEq)]
 pub struct FiniteBox {
     pub finite: bool,
     pub bounds: BoundingBox,
@@ -25,12 +24,10 @@ pub fn finite_box(vertices: &[f64], n: usize) -> FiniteBox
 {
     let mut ok = true;
     let mut b = math_box::empty_box();
-    let mut at = 0;
-    while at < n {
+    for at in 0..n {
         let p = vertex(vertices, at);
-        ok = ok & math::is_finite(p);
+        ok &= p.is_finite();
         b = math_box::include(b, p);
-        at += 1;
     }
     FiniteBox {
         finite: ok,
@@ -39,15 +36,14 @@ pub fn finite_box(vertices: &[f64], n: usize) -> FiniteBox
 }
 
 // The box of the first n vertices.
+// A loop beside that of finite_box: it is for made meshes, whose vertices have been tested, and a second test of each would be work for nothing.
 pub fn box_of(vertices: &[f64], n: usize) -> BoundingBox
     requires { 3 * n ≤ length vertices.now }
     ensures { result ≡ box_of (points (take (3 * n) vertices.now)) }
 {
     let mut b = math_box::empty_box();
-    let mut i = 0;
-    while i < n {
+    for i in 0..n {
         b = math_box::include(b, vertex(vertices, i));
-        i += 1;
     }
     plus_zero(b)
 }
@@ -72,22 +68,12 @@ pub fn plus_zero(b: BoundingBox) -> BoundingBox
     }
 }
 
-// Whether two points have equal coordinates.
-fn same_point(p: Vec3, q: Vec3) -> bool
-    ensures { result ≡ same_point p q }
-{
-    (p.x == q.x) & (p.y == q.y) & (p.z == q.z)
-}
-
 // Whether two boxes have equal bounds: −0.0 equals 0.0, and a NaN equals nothing.
+// The derived ==, under a name for its clause, and for the edits that change what it compares.
 pub fn same_box(a: BoundingBox, b: BoundingBox) -> bool
     ensures { result ≡ same_box a b }
 {
-    let low = a.min;
-    let high = a.max;
-    let other_low = b.min;
-    let other_high = b.max;
-    same_point(low, other_low) & same_point(high, other_high)
+    a == b
 }
 
 // The box whose bounds are all zero.

@@ -8,8 +8,7 @@ use lib.Dec.{ltb}
 use lib.Ieee.Scale.{finite}
 use borrow.Author.Tests.{ltb-true, ltb-false, lt-ltb, le-ltb, not-false}
 use Rattle.slice_law.specs.Bools.{neither, or_true}
-use Rattle.refusal.specs.declared.Refusal.{Refusal}
-use Rattle.refusal.specs.declared.Refusal.TheVariants.{Accepted, NotFinite, BadMesh}
+use Rattle.refusal.specs.Answer.{Answer, Accepted, NotFinite, BadMesh}
 use Rattle.slice.specs.Every.{counted_places, every}
 use Rattle.refusal.specs.Accepted.{is_accepted}
 use Rattle.mesh_check.specs.State.{State, bad_mesh, not_finite, bad_box, check_of, Sound}
@@ -61,11 +60,11 @@ module _ (s : State) (good : bad_mesh s ≡ false) where
 
 -- ---- a call that was accepted
 -- its first test did not refuse
-pub not_bad : (a : Bool) (q : Refusal) → is_accepted (cond a BadMesh q) ≡ true → a ≡ false
+pub not_bad : (a : Bool) (q : Answer) → is_accepted (cond a BadMesh q) ≡ true → a ≡ false
 not_bad true q e = absurd (false≢true e)
 not_bad false q e = refl
 
-pub check_sound : (s : State) (r : Refusal) → r ≡ check_of s → is_accepted r ≡ true → Sound s
+pub check_sound : (s : State) (r : Answer) → r ≡ check_of s → is_accepted r ≡ true → Sound s
 unfolding check_of
 check_sound s r e h = sound s (not_bad (bad_mesh s) (cond (not_finite s) NotFinite (cond (bad_box s) BadMesh Accepted)) (sym (ap {B = Bool} is_accepted e) ∙ h))
 

@@ -15,7 +15,7 @@ use Rattle.mesh_spec.specs.Slices.{points}
 use Rattle.mesh_spec.specs.Measures.{box_of, bounding_box, same_box}
 use Rattle.mesh_box.specs.declared.FiniteBox.{FiniteBox}
 use Rattle.mesh_box.specs.FiniteBox.{finite_box}
-use Rattle.refusal.specs.declared.Refusal.TheVariants.{Accepted, NotFinite, BadMesh}
+use Rattle.refusal.specs.Answer.{Accepted, NotFinite, BadMesh}
 use Rattle.slice.specs.Every.{every}
 use Rattle.mesh_check.specs.State.{State, mesh_of, bad_mesh, not_finite, bad_box, check_of}
 

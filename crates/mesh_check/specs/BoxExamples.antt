@@ -1,5 +1,5 @@
 -- Which boxes of a record are accepted, by computation. The slices have places for two vertices and none for a triangle. Assumes nothing.
-use Rattle.std.specs.Prelude.{◌≡◌, refl, true, false, cond, [], ◌∷◌, map, ℕ, suc, ◌%◌, eqb, replicate, pos, Float}
+use Rattle.std.specs.Prelude.{◌≡◌, refl, false, cond, [], ◌∷◌, map, ℕ, suc, ◌%◌, eqb, replicate, pos, Float}
 use Rattle.std.specs.Float.{nan, inf, binary64}
 use Rattle.std.specs.Float.Ieee.{add, neg, of_int, of_bits, eq, lt, is_nan}
 use Rattle.ieee.specs.Number.{plus_zero, minimum, maximum}
@@ -11,10 +11,8 @@ use Rattle.math.specs.Box.{empty_box, include}
 use Rattle.mesh_spec.specs.Mesh.{plus_zero_v, same_point}
 use Rattle.mesh_spec.specs.Measures.{including, plus_zero_box, box_of, bounding_box, same_box}
 use Rattle.mesh_box.specs.ZeroBox.{zero_box}
-use Rattle.refusal.specs.declared.Refusal.{Refusal}
-use Rattle.refusal.specs.declared.Refusal.TheVariants.{Accepted, NotFinite, BadMesh}
-use Rattle.mesh_check.specs.declared.Boxed.{Boxed}
-use Rattle.mesh_check.specs.State.{record_of, State, state, mesh_of, bad_mesh, not_finite, has_right_box, bad_box, check_of, boxed_with}
+use Rattle.refusal.specs.Answer.{Answer, Accepted, NotFinite, BadMesh}
+use Rattle.mesh_check.specs.State.{record_of, State, state, mesh_of, bad_mesh, not_finite, has_right_box, bad_box, check_of, Boxed, boxed_with}
 
 abbrev pub float : ℕ → Float
 float n = of_int binary64 (pos n)
@@ -40,12 +38,12 @@ abbrev pub claims : ℕ → Vec3 → Vec3 → BoundingBox → State
 claims n p q b = state (record_of n 0 b) (p.x ∷ p.y ∷ p.z ∷ q.x ∷ q.y ∷ q.z ∷ []) []
 
 -- check_of, with what it takes to compute it
-unfoldable checked : State → Refusal
+unfoldable checked : State → Answer
 unfolding check_of bad_mesh not_finite bad_box has_right_box counted_places every mesh_of bounding_box box_of including include empty_box plus_zero_box plus_zero_v same_box
     same_point v_min v_max minimum maximum is_nan lt eq neg add of_int of_bits zero_box
 checked s = check_of s
 
--- what check answers, likewise
+-- the outcome of check, likewise
 unfoldable answered : State → Boxed
 unfolding checked boxed_with
 answered s = boxed_with (check_of s) (bounding_box (mesh_of s))
@@ -119,7 +117,7 @@ no_vertices_zeros : checked (claims 0 first second zero_box) ≡ BadMesh
 unfolding checked
 no_vertices_zeros = refl
 
--- the answer to a refused mesh has a box of zeros
+-- the outcome of a refused mesh has a box of zeros
 refused_zeros : answered (claims 1 first second (between first second)) ≡ record { refusal = BadMesh; bounds = zero_box }
 unfolding answered
 refused_zeros = refl

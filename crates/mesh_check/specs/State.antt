@@ -1,6 +1,6 @@
 -- A mesh record with its two lent slices, the mesh that they hold, and the checks 8, 1 and 7 of docs/SCOPE.md, "Refusals"; 8 is asked of counts and
 -- numbers first, and of the box after 1. Definitions only.
-use Rattle.std.specs.Prelude.{Bool, true, false, not, ◌||◌, cond, List, ◌++◌, ℕ, ◌*◌, ◌≤◌, ◌<◌, length, take, drop, get_or, T, ltb, Float}
+use Rattle.std.specs.Prelude.{Result, Ok, Err, Bool, not, ◌||◌, cond, List, ◌++◌, ℕ, ◌*◌, ◌≤◌, ◌<◌, length, take, drop, get_or, T, ltb, Float}
 use Rattle.std.specs.Float.Ieee.Scale.{finite}
 use Rattle.slice.specs.Every.{counted_places, places_of, every}
 use Rattle.mesh_balance_spec.specs.Buffer.{flat, tris}
@@ -11,10 +11,9 @@ use Rattle.mesh_spec.specs.Slices.{flat_v, points}
 use Rattle.mesh_spec.specs.Measures.{bounding_box, same_box}
 use Rattle.mesh_box.specs.ZeroBox.{zero_box}
 use Rattle.refusal.specs.declared.Refusal.{Refusal}
-use Rattle.refusal.specs.declared.Refusal.TheVariants.{Accepted, NotFinite, BadMesh}
+use Rattle.refusal.specs.Answer.{Answer, Accepted, NotFinite, BadMesh}
 use Rattle.refusal.specs.Accepted.{is_accepted}
 use Rattle.mesh_check.specs.declared.TriMesh.{TriMesh}
-use Rattle.mesh_check.specs.declared.Boxed.{Boxed}
 
 -- a record: so many vertices and triangles, and a box
 abbrev pub record_of : ℕ → ℕ → BoundingBox → TriMesh
@@ -33,6 +32,11 @@ pub record State : Type 0 where
   pub mesh : TriMesh
   pub vertices : List Float
   pub triangles : List ℕ
+
+-- the record after a call that makes or changes a mesh: the one that it answers, or where it is refused the one before
+abbrev pub record_after : TriMesh → Result TriMesh Refusal → TriMesh
+record_after before (Ok after) = after
+record_after before (Err refusal) = before
 
 -- the state of a record and two slices
 abbrev pub state : TriMesh → List Float → List ℕ → State
@@ -89,10 +93,15 @@ pub record Sound (s : State) : Type 0 where
   pub below : (i : ℕ) → i < 3 * s.mesh.triangles → get_or s.triangles i 0 < s.mesh.vertices
 
 -- what `flip` and the measures check: 8, then 1, then 8 for the box
-unfoldable pub check_of : State → Refusal
+unfoldable pub check_of : State → Answer
 check_of s = cond (bad_mesh s) BadMesh (cond (not_finite s) NotFinite (cond (bad_box s) BadMesh Accepted))
 
+-- a refusal or none, and a box
+pub record Boxed : Type 0 where
+  pub refusal : Answer
+  pub bounds : BoundingBox
+
 -- a refusal or none, with a box where it is none, and the box of zeros where it is one
-unfoldable pub boxed_with : Refusal → BoundingBox → Boxed
+unfoldable pub boxed_with : Answer → BoundingBox → Boxed
 unfolding zero_box
 boxed_with q b = record { refusal = q; bounds = cond (is_accepted q) b zero_box }

@@ -1,5 +1,5 @@
 -- What was stored in the slices is the mesh that they hold, under its record; and a refusal or none, beside a box. Assumes nothing.
-use Rattle.std.specs.Prelude.{◌≡◌, refl, Bool, true, false, List, ℕ, ◌*◌, length, take, drop, Float}
+use Rattle.std.specs.Prelude.{◌≡◌, refl, Bool, true, false, List, ℕ, ◌*◌, length, drop}
 use Rattle.std.proofs.Common.{sym, ◌∙◌}
 use Rattle.std.proofs.Math.Path.{ap}
 use Rattle.std.specs.Float.Ieee.{add, of_bits}
@@ -7,16 +7,15 @@ use Rattle.math.specs.declared.Vec3.{Vec3}
 use Rattle.math.specs.declared.BoundingBox.{BoundingBox}
 use Rattle.math.specs.Box.{empty_box}
 use Rattle.mesh_balance_spec.specs.Soup.{Tri}
-use Rattle.mesh_balance_spec.specs.Buffer.{flat, tris, tris_flat}
+use Rattle.mesh_balance_spec.specs.Buffer.{tris, tris_flat}
 use Rattle.mesh_spec.specs.Mesh.{Mesh, no_mesh, plus_zero_v}
-use Rattle.mesh_spec.specs.Slices.{flat_v, points}
+use Rattle.mesh_spec.specs.Slices.{points}
 use Rattle.mesh_spec.specs.SliceLaws.{points_flat_v, take_flat, take_flat_v}
 use Rattle.mesh_spec.specs.Measures.{including, plus_zero_box, box_of, bounding_box}
-use Rattle.refusal.specs.declared.Refusal.{Refusal}
+use Rattle.refusal.specs.Answer.{Answer}
 use Rattle.refusal.specs.Accepted.{is_accepted}
 use Rattle.mesh_check.specs.declared.TriMesh.{TriMesh}
-use Rattle.mesh_check.specs.declared.Boxed.{Boxed}
-use Rattle.mesh_check.specs.State.{record_for, empty_record, State, mesh_of, stored, boxed_with}
+use Rattle.mesh_check.specs.State.{record_for, empty_record, State, mesh_of, stored, Boxed, boxed_with}
 
 pub mesh_stored : (m : Mesh) (s : State) → mesh_of (stored m s) ≡ m
 unfolding mesh_of stored
@@ -40,17 +39,17 @@ unfolding bounding_box box_of including plus_zero_box plus_zero_v empty_box add 
 empty_is = refl
 
 -- ---- a refusal or none, with a box
-module _ (q : Refusal) (b : BoundingBox) (r : Boxed) (e : r ≡ boxed_with q b) where
+module _ (q : Answer) (b : BoundingBox) (r : Boxed) (e : r ≡ boxed_with q b) where
   pub boxed_refusal : r.refusal ≡ q
   unfolding boxed_with
-  boxed_refusal = ap {B = Refusal} (λ (x : Boxed). x.refusal) e
+  boxed_refusal = ap {B = Answer} (λ (x : Boxed). x.refusal) e
 
   pub boxed_bounds : is_accepted r.refusal ≡ true → r.bounds ≡ b
   unfolding boxed_with
   boxed_bounds h = ap {B = BoundingBox} (λ (x : Boxed). x.bounds) e ∙ rw (sym (ap {B = Bool} is_accepted boxed_refusal) ∙ h)
 
 -- where it is a refusal, the box does not matter
-pub refused_boxed : (q p : Refusal) (a b : BoundingBox) → is_accepted q ≡ false → q ≡ p → boxed_with q a ≡ boxed_with p b
+pub refused_boxed : (q p : Answer) (a b : BoundingBox) → is_accepted q ≡ false → q ≡ p → boxed_with q a ≡ boxed_with p b
 unfolding boxed_with
 refused_boxed q p a b e h = boxed_either e ∙ (λ j. boxed_with (h j) b)
   where

@@ -10,21 +10,14 @@ mod refusals;
 
 pub use checks::bad_mesh;
 use math::BoundingBox;
-use refusal::Refusal;
-pub use refusals::{boxed_with, check};
+pub use refusals::check;
 
 // The record of a mesh: its counts, and the box of its vertices.
+// The slices are lent and may be longer than the mesh, so the record has counts: there is no heap for a Vec, and C lends slices too.
 #[derive(Clone, Copy)]
 pub struct TriMesh {
     pub vertices: usize,
     pub triangles: usize,
-    pub bounds: BoundingBox,
-}
-
-// A refusal or none, and a box, all zero where it is a refusal.
-#[derive(Clone, Copy)]
-pub struct Boxed {
-    pub refusal: Refusal,
     pub bounds: BoundingBox,
 }
 

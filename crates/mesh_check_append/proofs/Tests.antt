@@ -11,7 +11,7 @@ use Rattle.mesh_spec.specs.Measures.{bounding_box, same_box}
 use Rattle.mesh_box.specs.declared.FiniteBox.{FiniteBox}
 use Rattle.mesh_box.specs.FiniteBox.{finite_box}
 use Rattle.mesh_box_law.specs.Boxes.{box_append}
-use Rattle.refusal.specs.declared.Refusal.TheVariants.{Accepted, NotFinite, NoRoom, BadMesh}
+use Rattle.refusal.specs.Answer.{Accepted, NotFinite, NoRoom, BadMesh}
 use Rattle.slice.specs.Every.{counted_places}
 use Rattle.mesh_check.specs.State.{State, mesh_of, bad_mesh, not_finite, bad_box, no_room, Sound}
 use Rattle.mesh_check.proofs.Stored.{appended_vertices, appended_triangles}

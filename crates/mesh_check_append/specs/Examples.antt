@@ -9,14 +9,13 @@ use Rattle.math.specs.Vec.{v_min, v_max}
 use Rattle.math.specs.Box.{empty_box, include}
 use Rattle.mesh_spec.specs.Mesh.{plus_zero_v, same_point, append}
 use Rattle.mesh_spec.specs.Measures.{including, plus_zero_box, box_of, bounding_box, same_box}
-use Rattle.refusal.specs.declared.Refusal.{Refusal}
-use Rattle.refusal.specs.declared.Refusal.TheVariants.{Accepted, NotFinite, NoRoom, BadMesh}
+use Rattle.refusal.specs.Answer.{Answer, Accepted, NotFinite, NoRoom, BadMesh}
 use Rattle.mesh_check.specs.State.{State, mesh_of, bad_mesh, not_finite, has_right_box, bad_box, no_room}
 use Rattle.mesh_check.specs.BoxExamples.{between, first, first_from, second, claims}
 use Rattle.mesh_check_append.specs.Append.{append_refusal}
 
 -- append_refusal, with what it takes to compute it
-unfoldable answer : State → State → Refusal
+unfoldable answer : State → State → Answer
 unfolding append_refusal bad_mesh not_finite bad_box has_right_box no_room append counted_places every mesh_of bounding_box box_of including include empty_box
     plus_zero_box plus_zero_v same_box same_point v_min v_max minimum maximum is_nan lt eq add of_int of_bits
 answer s o = append_refusal s o

@@ -4,13 +4,15 @@
 ghost use Rattle.std.specs.Prelude.{◌≡◌};
 ghost use Rattle.mesh_spec.specs.Mesh.{append};
 ghost use Rattle.mesh_spec.specs.Measures.{bounding_box};
-ghost use Rattle.mesh_check.specs.State.{state, mesh_of, boxed_with};
+ghost use Rattle.refusal.specs.Answer.{answer_with};
+ghost use Rattle.mesh_check.specs.State.{state, mesh_of};
 ghost use Rattle.mesh_check_append.specs.Append.{append_refusal};
 
-use mesh_check::{Boxed, TriMesh, boxed_with};
+use math::BoundingBox;
+use mesh_check::TriMesh;
 use refusal::Refusal;
 
-// 8, 1, 8 for the box, 7; and the box of both meshes, which is the union of their boxes.
+// The box of both meshes, which is the union of their boxes, unless 8, 1, 8 for the box or 7 is due.
 pub fn check_append(
     mesh: TriMesh,
     vertices: &[f64],
@@ -18,43 +20,34 @@ pub fn check_append(
     other: TriMesh,
     other_vertices: &[f64],
     other_triangles: &[u32],
-) -> Boxed
+) -> Result<BoundingBox, Refusal>
     ensures { result
-        ≡ boxed_with
+        ≡ answer_with
         (append_refusal (state mesh vertices.now triangles.now)
         (state other other_vertices.now other_triangles.now))
         (bounding_box (append (mesh_of (state mesh vertices.now triangles.now))
         (mesh_of (state other other_vertices.now other_triangles.now)))) }
 {
-    let n = mesh.vertices;
-    let k = mesh.triangles;
-    let claimed = mesh.bounds;
-    let more_n = other.vertices;
-    let more_k = other.triangles;
-    let other_claimed = other.bounds;
-    let zeros = mesh_box::zero_box();
     if mesh_check::bad_mesh(mesh, vertices, triangles)
         | mesh_check::bad_mesh(other, other_vertices, other_triangles)
     {
-        return boxed_with(Refusal::BadMesh, zeros);
+        return Err(Refusal::BadMesh);
     }
-    let found = mesh_box::finite_box(vertices, n);
-    let more = mesh_box::finite_box(other_vertices, more_n);
+    let found = mesh_box::finite_box(vertices, mesh.vertices);
+    let more = mesh_box::finite_box(other_vertices, other.vertices);
     let finite = found.finite & more.finite;
-    let bounds = found.bounds;
-    let other_bounds = more.bounds;
-    let right = mesh_box::same_box(claimed, bounds)
-        & mesh_box::same_box(other_claimed, other_bounds);
+    let right = mesh_box::same_box(mesh.bounds, found.bounds)
+        & mesh_box::same_box(other.bounds, more.bounds);
     if !finite {
-        return boxed_with(Refusal::NotFinite, bounds);
+        return Err(Refusal::NotFinite);
     }
     if !right {
-        return boxed_with(Refusal::BadMesh, bounds);
+        return Err(Refusal::BadMesh);
     }
-    if (slice::counted_places(vertices.len()) < n + more_n)
-        | (slice::counted_places(triangles.len()) < k + more_k)
+    if (slice::counted_places(vertices.len()) < mesh.vertices + other.vertices)
+        | (slice::counted_places(triangles.len()) < mesh.triangles + other.triangles)
     {
-        return boxed_with(Refusal::NoRoom, bounds);
+        return Err(Refusal::NoRoom);
     }
-    boxed_with(Refusal::Accepted, math_box::union(bounds, other_bounds))
+    Ok(math_box::union(found.bounds, more.bounds))
 }

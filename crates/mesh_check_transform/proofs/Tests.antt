@@ -20,8 +20,7 @@ use Rattle.mesh_spec.specs.Measures.{box_of}
 use Rattle.mesh_box.specs.declared.FiniteBox.{FiniteBox}
 use Rattle.mesh_box.specs.FiniteBox.{finite_box}
 use Rattle.mesh_box_law.specs.Boxes.{take_fit, box_bounded}
-use Rattle.refusal.specs.declared.Refusal.{Refusal}
-use Rattle.refusal.specs.declared.Refusal.TheVariants.{Accepted, NotFinite, AngleTooLarge, BadList, PointNotFinite, BadMesh}
+use Rattle.refusal.specs.Answer.{Answer, Accepted, NotFinite, AngleTooLarge, BadList, PointNotFinite, BadMesh}
 use Rattle.slice.specs.Every.{every}
 use Rattle.slice_bounded.specs.Bounded.{is_bounded}
 use Rattle.mesh_move_affine.specs.Affine.{Tested}
@@ -73,7 +72,7 @@ module _ (ops : List TransformOp) (count : ℕ) (degrees : Bool) (s : State) whe
         transform_bad_box e = rw (good, short, known, e)
 
         -- after these tests, the rest
-        pub transform_rest : bad_box s ≡ false → (r : Refusal) → r ≡ move_refusal ops count degrees (points (take (3 * s.mesh.vertices) s.vertices))
+        pub transform_rest : bad_box s ≡ false → (r : Answer) → r ≡ move_refusal ops count degrees (points (take (3 * s.mesh.vertices) s.vertices))
             → r ≡ transform_refusal ops count degrees s
         unfolding transform_refusal move_refusal mesh_of transformed
         transform_rest right r e = rw (good, short, known, right, transform_vertices (folded degrees used) (mesh_of s)) e

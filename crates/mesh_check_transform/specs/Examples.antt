@@ -13,14 +13,13 @@ use Rattle.transform.specs.Angle.{within1000, angle_radians}
 use Rattle.transform.specs.Checks.{too_many_ops, op_finite, ops_finite, op_angle_within, ops_angles_within}
 use Rattle.mesh_spec.specs.Mesh.{plus_zero_v, same_point}
 use Rattle.mesh_spec.specs.Measures.{including, plus_zero_box, box_of, bounding_box, same_box}
-use Rattle.refusal.specs.declared.Refusal.{Refusal}
-use Rattle.refusal.specs.declared.Refusal.TheVariants.{Accepted, NotFinite, AngleTooLarge, BadList, BadMesh}
+use Rattle.refusal.specs.Answer.{Answer, Accepted, NotFinite, AngleTooLarge, BadList, BadMesh}
 use Rattle.mesh_check.specs.State.{State, mesh_of, bad_mesh, not_finite, has_right_box, bad_box}
 use Rattle.mesh_check.specs.BoxExamples.{float, between, first, second, claims}
 use Rattle.mesh_check_transform.specs.Transform.{transform_refusal}
 
 -- transform_refusal of one operation counted so often, in radians, with what it takes to compute it
-unfoldable answer : TransformOp → ℕ → State → Refusal
+unfoldable answer : TransformOp → ℕ → State → Answer
 unfolding transform_refusal ops_finite op_finite ops_angles_within op_angle_within within1000 angle_radians absolute bad_mesh not_finite bad_box has_right_box
     counted_places every mesh_of bounding_box box_of including include empty_box plus_zero_box plus_zero_v same_box same_point v_min v_max minimum maximum is_nan lt le eq
     add of_int of_bits

@@ -5,6 +5,7 @@
 ghost use Rattle.std.specs.Prelude.{◌≡◌, ◌++◌, ◌*◌, take};
 ghost use Rattle.mesh_spec.specs.Slices.{points, coords};
 ghost use Rattle.mesh_move_affine.specs.Affine.{Tested};
+ghost use Rattle.refusal.specs.Answer.{answer_of};
 ghost use Rattle.mesh_check.specs.State.{state};
 ghost use Rattle.slice.specs.Every.{every};
 ghost use Rattle.slice_bounded.specs.Bounded.{is_bounded};
@@ -13,35 +14,24 @@ ghost use Rattle.mesh_check_transform.specs.Transform.{move_refusal, transform_r
 use math::BoundingBox;
 use mesh_check::TriMesh;
 use refusal::Refusal;
-use transform::TransformOp;
+use transform::Operations;
 
 // What is left of a transform's refusals after 8, 4, 1 and the box: 2, and where there are operations 5.
-fn move_refusal(
-    vertices: &[f64],
-    n: usize,
-    small: bool,
-    ops: [TransformOp; 16],
-    op_count: usize,
-    degrees: bool,
-) -> Refusal
+fn move_refusal(vertices: &[f64], n: usize, small: bool, ops: &Operations) -> Result<(), Refusal>
     requires { Tested vertices.now n small }
-    ensures { result ≡ move_refusal ops op_count degrees (points (take (3 * n) vertices.now)) }
+    ensures { answer_of result
+        ≡ move_refusal ops.now.ops ops.now.count ops.now.degrees (points (take (3 * n) vertices.now)) }
 {
-    if !transform_angles::ops_angles_within(ops, op_count, degrees) {
-        return Refusal::AngleTooLarge;
+    if !transform_angles::ops_angles_within(ops) {
+        return Err(Refusal::AngleTooLarge);
     }
-    if op_count == 0 {
-        return Refusal::Accepted;
+    if ops.count == 0 {
+        return Ok(());
     }
-    if !mesh_stay_finite::tested_stay_finite(
-        vertices,
-        n,
-        transform::fold(ops, op_count, degrees),
-        small,
-    ) {
-        return Refusal::PointNotFinite;
+    if !mesh_stay_finite::tested_stay_finite(vertices, n, transform::fold(ops), small) {
+        return Err(Refusal::PointNotFinite);
     }
-    Refusal::Accepted
+    Ok(())
 }
 
 // Whether the bounds lie within ±2^400. What lies in the box does so then, and needs no test.
@@ -59,27 +49,23 @@ pub fn transform_refusal(
     mesh: TriMesh,
     vertices: &[f64],
     triangles: &[u32],
-    ops: [TransformOp; 16],
-    op_count: usize,
-    degrees: bool,
-) -> Refusal
-    ensures { result ≡ transform_refusal ops op_count degrees (state mesh vertices.now triangles.now) }
+    ops: &Operations,
+) -> Result<(), Refusal>
+    ensures { answer_of result
+        ≡ transform_refusal ops.now.ops ops.now.count ops.now.degrees (state mesh vertices.now triangles.now) }
 {
-    let n = mesh.vertices;
-    let claimed = mesh.bounds;
     if mesh_check::bad_mesh(mesh, vertices, triangles) {
-        return Refusal::BadMesh;
+        return Err(Refusal::BadMesh);
     }
-    if transform_check::too_many_ops(op_count) {
-        return Refusal::BadList;
+    if transform_check::too_many_ops(ops.count) {
+        return Err(Refusal::BadList);
     }
-    let found = mesh_box::finite_box(vertices, n);
-    let bounds = found.bounds;
-    if !(found.finite & transform_check::ops_finite(ops, op_count)) {
-        return Refusal::NotFinite;
+    let found = mesh_box::finite_box(vertices, mesh.vertices);
+    if !(found.finite & transform_check::ops_finite(ops)) {
+        return Err(Refusal::NotFinite);
     }
-    if !mesh_box::same_box(claimed, bounds) {
-        return Refusal::BadMesh;
+    if !mesh_box::same_box(mesh.bounds, found.bounds) {
+        return Err(Refusal::BadMesh);
     }
-    move_refusal(vertices, n, is_small(bounds), ops, op_count, degrees)
+    move_refusal(vertices, mesh.vertices, is_small(found.bounds), ops)
 }

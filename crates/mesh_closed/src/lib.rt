@@ -35,10 +35,8 @@ fn count_uses(t: &[u32], u: u32, v: u32) -> usize
     ensures { result ≡ uses u v (edges (tris t.now)) }
 {
     let mut n = 0;
-    let mut i = 0;
-    while i < t.len() / 3 {
+    for i in 0..t.len() / 3 {
         n += triangle_uses(t, i, u, v);
-        i += 1;
     }
     n
 }
@@ -80,12 +78,10 @@ fn triangle_closed(n: usize, t: &[u32], i: usize) -> bool
 pub fn closed(n: usize, t: &[u32]) -> bool
     ensures { (m : Mesh) → length m.vertices ≡ n → m.triangles ≡ tris t.now → Decides result (Closed m) }
 {
-    let mut i = 0;
-    while i < t.len() / 3 {
+    for i in 0..t.len() / 3 {
         if !triangle_closed(n, t, i) {
             return false;
         }
-        i += 1;
     }
     true
 }

@@ -11,8 +11,7 @@ use Rattle.transform.specs.Ops.{folded}
 use Rattle.mesh_spec.specs.Mesh.{Mesh, append, flip}
 use Rattle.mesh_spec.specs.Closed.{NoneTwice, AllThere}
 use Rattle.mesh_spec.proofs.ProperLawsHeld.{append_none_twice, flip_none_twice, transform_none_twice, append_all_there, flip_all_there, transform_all_there}
-use Rattle.refusal.specs.declared.Refusal.{Refusal}
-use Rattle.refusal.specs.declared.Refusal.TheVariants.{Accepted}
+use Rattle.refusal.specs.Answer.{Answer, Accepted}
 use Rattle.refusal.specs.Accepted.{is_accepted}
 use Rattle.refusal.specs.Laws.{accepted_is}
 use Rattle.mesh_check.specs.State.{State, mesh_of, stored, check_of, RightBox}
@@ -26,7 +25,7 @@ use Rattle.mesh_edit_law.specs.Lists.{Call, Append, Flip, Transform, AllBring, B
 -- a call keeps a property of the state where the state after its edit has it
 module _ (Q : State → Type 0) (s : State) (start : Q s) where
   -- an edit to t, which has the property unless the call is refused
-  by_edit : (r : Refusal) (t : State) → (r ≡ Accepted → Q t) → Q (edited r s t).state
+  by_edit : (r : Answer) (t : State) → (r ≡ Accepted → Q t) → Q (edited r s t).state
   unfolding edited
   by_edit r t h = go (is_accepted r) refl
     where

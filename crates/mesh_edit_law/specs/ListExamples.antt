@@ -19,7 +19,7 @@ use Rattle.mesh_spec.specs.Closed.{Closed}
 use Rattle.mesh_spec.specs.ClosedLaws.{no_mesh_closed}
 use Rattle.mesh_spec.specs.ClosedExamples.{tetrahedron_closed}
 use Rattle.mesh_box.specs.ZeroBox.{zero_box}
-use Rattle.refusal.specs.declared.Refusal.TheVariants.{Accepted, NoRoom, BadMesh}
+use Rattle.refusal.specs.Answer.{Accepted, NoRoom, BadMesh}
 use Rattle.refusal.specs.Number.{number_of}
 use Rattle.mesh_check.specs.State.{record_of, empty_record, State, state, mesh_of, stored, bad_mesh, not_finite, has_right_box, bad_box, no_room, RightBox, check_of}
 use Rattle.mesh_check_append.specs.Append.{append_refusal}

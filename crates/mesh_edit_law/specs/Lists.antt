@@ -18,8 +18,7 @@ use Rattle.mesh_spec.specs.EdgeLaws.{append_edges, flip_edges}
 use Rattle.mesh_spec.proofs.EdgeLawsHeld.{transform_edges}
 use Rattle.mesh_spec.proofs.ClosedLawsHeld.{append_closed, flip_closed, transform_closed}
 use Rattle.mesh_spec.proofs.ProperLawsHeld.{append_none_twice, flip_none_twice, transform_none_twice, append_all_there, flip_all_there, transform_all_there}
-use Rattle.refusal.specs.declared.Refusal.{Refusal}
-use Rattle.refusal.specs.declared.Refusal.TheVariants.{Accepted}
+use Rattle.refusal.specs.Answer.{Accepted}
 use Rattle.refusal.specs.Accepted.{is_accepted}
 use Rattle.refusal.specs.Laws.{accepted_is}
 use Rattle.mesh_check.specs.State.{State, mesh_of, stored, check_of, has_right_box, RightBox}

@@ -10,7 +10,8 @@ use Rattle.slice.specs.Cleared.{cleared_from}
 use Rattle.slice.specs.ClearedLaws.{cleared_all}
 use Rattle.mesh_balance_spec.specs.Buffer.{flat, length_flat}
 use Rattle.refusal.specs.declared.Refusal.{Refusal}
-use Rattle.refusal.specs.declared.Refusal.TheVariants.{Accepted}
+use Rattle.refusal.specs.Answer.{Answer, Accepted, answer_of}
+use Rattle.std.specs.Prelude.{Result, Ok, Err, Some}
 use Rattle.refusal.specs.Number.{number_of}
 use Rattle.refusal.specs.Accepted.{is_accepted}
 use Rattle.refusal.specs.Laws.{accepted_is}
@@ -21,9 +22,8 @@ use Rattle.mesh_spec.specs.SliceLaws.{take_flat, take_flat_v, length_flat_v}
 use Rattle.mesh_check.specs.declared.TriMesh.{TriMesh}
 use Rattle.mesh_check.specs.State.{record_of, empty_record, State, state, stored}
 use Rattle.mesh_check.proofs.Lying.{lies}
-use Rattle.mesh_made.specs.declared.Made.{Made}
-use Rattle.mesh_made.specs.Made.{Lent, lent, refused_with, accepted_with, Ending, refused_as, accepted_as, made_as, GivesMade}
-use Rattle.mesh_made.specs.Steps.{Makes, Keeps, Ends}
+use Rattle.mesh_made.specs.Made.{lent, record_made, Ending, refused_as, accepted_as, made_as, GivesMade}
+use Rattle.mesh_made.specs.Steps.{Makes, Ends}
 
 -- slices that kept their lengths
 pub lent_same : (vs us : List Float) (ts ss ws xs : List ℕ) → length vs ≡ length us → length ts ≡ length ss → length ws ≡ length xs → lent vs ts ws ≡ lent us ss xs
@@ -32,19 +32,19 @@ lent_same vs us ts ss ws xs a b c = λ j. record { vertices = a j; triangles = b
 -- ---- what was made
 
 -- the same, written in another way
-pub makes_as : {q p : Refusal} {m o : Mesh} {r : Made} {vs : List Float} {ts : List ℕ} → q ≡ p → m ≡ o → Makes q m r vs ts → Makes p o r vs ts
-makes_as {q} {p} {m} {o} {r} {vs} {ts} e f M = subst (λ (x : Mesh). Makes p x r vs ts) f (subst (λ (x : Refusal). Makes x m r vs ts) e M)
+pub makes_as : {q p : Answer} {m o : Mesh} {r : Result TriMesh Refusal} {vs : List Float} {ts : List ℕ} → q ≡ p → m ≡ o → Makes q m r vs ts → Makes p o r vs ts
+makes_as {q} {p} {m} {o} {r} {vs} {ts} e f M = subst (λ (x : Mesh). Makes p x r vs ts) f (subst (λ (x : Answer). Makes x m r vs ts) e M)
 
 -- the same answer
-pub makes_is : {q : Refusal} {m : Mesh} {r t : Made} {vs : List Float} {ts : List ℕ} → r ≡ t → Makes q m t vs ts → Makes q m r vs ts
-makes_is {q} {m} {r} {t} {vs} {ts} e M = subst (λ (x : Made). Makes q m x vs ts) (sym e) M
+pub makes_is : {q : Answer} {m : Mesh} {r t : Result TriMesh Refusal} {vs : List Float} {ts : List ℕ} → r ≡ t → Makes q m t vs ts → Makes q m r vs ts
+makes_is {q} {m} {r} {t} {vs} {ts} e M = subst (λ (x : Result TriMesh Refusal). Makes q m x vs ts) (sym e) M
 
 -- a refusal makes no mesh
-pub makes_refused : (q : Refusal) (m : Mesh) (vs : List Float) (ts : List ℕ) → is_accepted q ≡ false → Makes q m (refused_with q) vs ts
+pub makes_refused : (q : Refusal) (m : Mesh) (vs : List Float) (ts : List ℕ) → is_accepted (Some q) ≡ false → Makes (Some q) m (Err q) vs ts
 makes_refused q m vs ts n = record { refusal = refl; refused = λ e. refl; holds = λ e. absurd (true≢false (sym e ∙ n)) }
 
 -- whatever the mesh
-pub makes_none : {q : Refusal} {m : Mesh} (o : Mesh) {r : Made} {vs us : List Float} {ts ss : List ℕ} → is_accepted q ≡ false → Makes q m r vs ts → Makes q o r us ss
+pub makes_none : {q : Answer} {m : Mesh} (o : Mesh) {r : Result TriMesh Refusal} {vs us : List Float} {ts ss : List ℕ} → is_accepted q ≡ false → Makes q m r vs ts → Makes q o r us ss
 makes_none o n M = record { refusal = M.refusal; refused = M.refused; holds = λ e. absurd (true≢false (sym e ∙ n)) }
 
 -- the fronts of slices in which m is stored
@@ -88,34 +88,34 @@ module _ (m : Mesh) (s t : State) (held : t ≡ stored m s) where
       omega (arith, triangles_counted, ap length all_numbers, length-append (flat m.triangles) (drop (3 * length m.triangles) s.triangles), length_flat m.triangles)
 
 -- a mesh that lies in the slices is made
-pub makes_accepted : (m : Mesh) (s : State) (c : TriMesh) (vs : List Float) (ts : List ℕ) → state c vs ts ≡ stored m s → Makes Accepted m (accepted_with c) vs ts
+pub makes_accepted : (m : Mesh) (s : State) (c : TriMesh) (vs : List Float) (ts : List ℕ) → state c vs ts ≡ stored m s → Makes Accepted m (Ok c) vs ts
 makes_accepted m s c vs ts e = record { refusal = refl; refused = λ n. absurd (true≢false n); holds = λ a. again m s (state c vs ts) e }
 
 -- ---- the end
 
 -- the counted places lie in the slices
-pub makes_lie : (q : Refusal) (m : Mesh) (r : Made) (vs : List Float) (ts : List ℕ) → Makes q m r vs ts
-    → (3 * r.mesh.vertices ≤ length vs) × (3 * r.mesh.triangles ≤ length ts)
+pub makes_lie : (q : Answer) (m : Mesh) (r : Result TriMesh Refusal) (vs : List Float) (ts : List ℕ) → Makes q m r vs ts
+    → (3 * (record_made r).vertices ≤ length vs) × (3 * (record_made r).triangles ≤ length ts)
 makes_lie q m r vs ts M = go (is_accepted q) refl
   where
-    go : (b : Bool) → is_accepted q ≡ b → (3 * r.mesh.vertices ≤ length vs) × (3 * r.mesh.triangles ≤ length ts)
-    go true e = let h = M.holds e in (vertices_lie m (state r.mesh vs ts) (state r.mesh vs ts) h, triangles_lie m (state r.mesh vs ts) (state r.mesh vs ts) h)
+    go : (b : Bool) → is_accepted q ≡ b → (3 * (record_made r).vertices ≤ length vs) × (3 * (record_made r).triangles ≤ length ts)
+    go true e = let h = M.holds e in (vertices_lie m (state (record_made r) vs ts) (state (record_made r) vs ts) h, triangles_lie m (state (record_made r) vs ts) (state (record_made r) vs ts) h)
     go false e = subst (λ (x : TriMesh). (3 * x.vertices ≤ length vs) × (3 * x.triangles ≤ length ts)) (sym (M.refused e)) (zero-le, zero-le)
 
 -- the same ending written in another way
-pub gives_as : {o p : Ending} {r : Made} {vs : List Float} {ts ws : List ℕ} → o ≡ p → GivesMade o r vs ts ws → GivesMade p r vs ts ws
+pub gives_as : {o p : Ending} {r : Result TriMesh Refusal} {vs : List Float} {ts ws : List ℕ} → o ≡ p → GivesMade o r vs ts ws → GivesMade p r vs ts ws
 gives_as {r} {vs} {ts} {ws} e g = subst (λ (x : Ending). GivesMade x r vs ts ws) e g
 
-module _ (q : Refusal) (m : Mesh) (made : Made) (vs : List Float) (ts ws : List ℕ) (M : Makes q m made vs ts)
-    (r : Made) (vs' : List Float) (ts' ws' : List ℕ) (E : Ends made vs ts ws r vs' ts' ws') where
-  answered : r.refusal ≡ q
-  answered = (λ j. (E.answer j).refusal) ∙ M.refusal
+module _ (q : Answer) (m : Mesh) (made : Result TriMesh Refusal) (vs : List Float) (ts ws : List ℕ) (M : Makes q m made vs ts)
+    (r : Result TriMesh Refusal) (vs' : List Float) (ts' ws' : List ℕ) (E : Ends made vs ts ws r vs' ts' ws') where
+  answered : answer_of r ≡ q
+  answered = (λ j. answer_of (E.answer j)) ∙ M.refusal
 
   -- refused
-  gives_refused : r.mesh ≡ empty_record → GivesMade (refused_as q (lent vs ts ws)) r vs' ts' ws'
+  gives_refused : (record_made r) ≡ empty_record → GivesMade (refused_as q (lent vs ts ws)) r vs' ts' ws'
   unfolding refused_as
   gives_refused e =
-      let c : made.mesh ≡ empty_record = sym (λ j. (E.answer j).mesh) ∙ e in
+      let c : (record_made made) ≡ empty_record = sym (λ j. record_made (E.answer j)) ∙ e in
       record {
         refusal = answered;
         number = ap number_of answered;
@@ -126,16 +126,16 @@ module _ (q : Refusal) (m : Mesh) (made : Made) (vs : List Float) (ts ws : List 
       }
 
   -- accepted: the slices held m, and were cleared after it
-  gives_accepted : q ≡ Accepted → state made.mesh vs ts ≡ stored m (state made.mesh vs ts) → GivesMade (accepted_as m (lent vs ts ws)) r vs' ts' ws'
+  gives_accepted : q ≡ Accepted → state (record_made made) vs ts ≡ stored m (state (record_made made) vs ts) → GivesMade (accepted_as m (lent vs ts ws)) r vs' ts' ws'
   unfolding accepted_as cleared_from
   gives_accepted e h =
-      let s = state made.mesh vs ts in
+      let s = state (record_made made) vs ts in
       let nv = vertices_counted m s s h in
       let nt = triangles_counted m s s h in
       record {
         refusal = answered ∙ e;
         number = ap number_of (answered ∙ e);
-        mesh = (λ j. (E.answer j).mesh) ∙ (λ j. record_of (nv j) (nt j) (recorded_bounds m s s h j));
+        mesh = (λ j. record_made (E.answer j)) ∙ (λ j. record_of (nv j) (nt j) (recorded_bounds m s s h j));
         vertices = E.keeps.vertices ∙ (λ j. front_floats m s s h j ++ replicate (length vs - 3 * nv j) (of_bits binary64 0));
         triangles = E.keeps.triangles ∙ (λ j. front_numbers m s s h j ++ replicate (length ts - 3 * nt j) 0);
         work = E.keeps.work ∙ cleared_all 0 ws;
@@ -149,4 +149,4 @@ module _ (q : Refusal) (m : Mesh) (made : Made) (vs : List Float) (ts ws : List 
 
       go : (b : Bool) → is_accepted q ≡ b → GivesMade (made_as q m (lent vs ts ws)) r vs' ts' ws'
       go true e = gives_as (same true e) (gives_accepted (accepted_is q e) (M.holds e))
-      go false e = gives_as (same false e) (gives_refused ((λ j. (E.answer j).mesh) ∙ M.refused e))
+      go false e = gives_as (same false e) (gives_refused ((λ j. record_made (E.answer j)) ∙ M.refused e))

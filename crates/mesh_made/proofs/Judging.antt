@@ -1,5 +1,5 @@
 -- What the welder tells of the parts: refusals 5 and 7, or their mesh. Assumes nothing.
-use mathlib.Core.Path.{◌≡◌, refl, sym, ap, ◌∙◌, subst}
+use mathlib.Core.Path.{◌≡◌, refl, sym, ap, ◌∙◌}
 use mathlib.Core.Bool.{Bool, true, false, not, ◌||◌, cond}
 use mathlib.Core.List.{List}
 use mathlib.Core.Logic.{inl, inr}
@@ -9,8 +9,9 @@ use lib.ListN.{length, take}
 use lib.Dec.{ltb}
 use lib.Ieee.{Float}
 use borrow.Author.Tests.{lt-ltb, le-ltb, ltb-false, not-true, not-false}
-use Rattle.refusal.specs.declared.Refusal.{Refusal}
-use Rattle.refusal.specs.declared.Refusal.TheVariants.{Accepted, PointNotFinite, NoRoom}
+use Rattle.refusal.specs.declared.Refusal.TheVariants as R
+use Rattle.refusal.specs.Answer.{Accepted, PointNotFinite, NoRoom}
+use Rattle.std.specs.Prelude.{Ok, Err}
 use Rattle.slice_law.specs.Bools.{or_true}
 use Rattle.slice.specs.Every.{counted_places}
 use Rattle.math.specs.declared.BoundingBox.{BoundingBox}
@@ -25,8 +26,7 @@ use Rattle.mesh_check.proofs.Lying.{lies}
 use Rattle.weld.specs.declared.Welder.{Welder}
 use Rattle.weld.specs.Rep.{Held, Ready, Over}
 use Rattle.weld.specs.Parts.{Fits, AllWelded}
-use Rattle.mesh_made.specs.declared.Made.{Made}
-use Rattle.mesh_made.specs.Made.{Lent, lent, refused_with, accepted_with, short_work}
+use Rattle.mesh_made.specs.Made.{Lent, lent, short_work}
 use Rattle.mesh_made.specs.Steps.{Makes, parts_refusal, welded_record, judged}
 use Rattle.mesh_made.proofs.Ending.{makes_as, makes_refused, makes_accepted}
 
@@ -78,8 +78,8 @@ module _ (parts : List Soup) (k : Held) where
       infinite b e = ap {B = Bool} not (sym W.finite ∙ e)
 
       by_room : k.st.finite ≡ true → (b : Bool) → k.st.room ≡ b
-          → Makes (parts_refusal parts n) m (cond b (accepted_with c) (refused_with NoRoom)) k.vertices k.triangles
-      by_room f false e = makes_as (due false true (infinite true f) (overfull (W.over f e))) refl (makes_refused NoRoom m k.vertices k.triangles refl)
+          → Makes (parts_refusal parts n) m (cond b (Ok c) (Err R.NoRoom)) k.vertices k.triangles
+      by_room f false e = makes_as (due false true (infinite true f) (overfull (W.over f e))) refl (makes_refused R.NoRoom m k.vertices k.triangles refl)
       by_room f true e =
           let s = state c k.vertices k.triangles in
           let h = W.holds f e in
@@ -89,19 +89,19 @@ module _ (parts : List Soup) (k : Held) where
 
       by_finite : (b : Bool) → k.st.finite ≡ b
           → Makes (parts_refusal parts n) m
-          (cond b (cond k.st.room (accepted_with c) (refused_with NoRoom)) (refused_with PointNotFinite)) k.vertices k.triangles
+          (cond b (cond k.st.room (Ok c) (Err R.NoRoom)) (Err R.PointNotFinite)) k.vertices k.triangles
       by_finite false e = makes_as (due true (no_room m (length k.vertices) (length k.triangles)) (infinite false e) refl) refl
-          (makes_refused PointNotFinite m k.vertices k.triangles refl)
+          (makes_refused R.PointNotFinite m k.vertices k.triangles refl)
       by_finite true e = by_room e k.st.room refl
 
 -- ---- the cases of `judge`
 module _ (w : Welder) (vs : List Float) where
-  pub judged_infinite : not w.finite ≡ true → refused_with PointNotFinite ≡ judged w vs
+  pub judged_infinite : not w.finite ≡ true → Err R.PointNotFinite ≡ judged w vs
   judged_infinite e = rw (not-true w.finite e)
 
   module _ (fine : not w.finite ≡ false) where
-    pub judged_full : not w.room ≡ true → refused_with NoRoom ≡ judged w vs
+    pub judged_full : not w.room ≡ true → Err R.NoRoom ≡ judged w vs
     judged_full e = rw (not-false w.finite fine, not-true w.room e)
 
-    pub judged_made : not w.room ≡ false → accepted_with (welded_record w vs) ≡ judged w vs
+    pub judged_made : not w.room ≡ false → Ok (welded_record w vs) ≡ judged w vs
     judged_made e = rw (not-false w.finite fine, not-false w.room e)

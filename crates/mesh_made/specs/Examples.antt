@@ -6,7 +6,7 @@ use Rattle.ieee.specs.Number.{minimum, maximum}
 use Rattle.math.specs.declared.Vec3.{Vec3}
 use Rattle.math.specs.Vec.{v_min, v_max}
 use Rattle.math.specs.Box.{empty_box, include}
-use Rattle.refusal.specs.declared.Refusal.TheVariants.{NoRoom}
+use Rattle.refusal.specs.Answer.{NoRoom}
 use Rattle.mesh_spec.specs.Mesh.{Mesh, plus_zero_v}
 use Rattle.mesh_spec.specs.Measures.{including, plus_zero_box, box_of, bounding_box}
 use Rattle.mesh_check.specs.State.{empty_record}

@@ -1,17 +1,16 @@
 -- How a call that makes a mesh in lent slices ends (docs/SCOPE.md, R10 and R11): the answer, and the final content of each slice. Definitions only.
-use Rattle.std.specs.Prelude.{◌≡◌, Bool, cond, List, ◌++◌, ℕ, ◌-◌, ◌*◌, ◌/◌, length, replicate, ltb, Float}
+use Rattle.std.specs.Prelude.{Result, ◌≡◌, Bool, cond, List, ◌++◌, ℕ, ◌-◌, ◌*◌, ◌/◌, length, replicate, ltb, Float}
 use Rattle.std.specs.Float.{binary64}
 use Rattle.std.specs.Float.Ieee.{of_bits}
 use Rattle.refusal.specs.declared.Refusal.{Refusal}
-use Rattle.refusal.specs.declared.Refusal.TheVariants.{Accepted}
+use Rattle.refusal.specs.Answer.{Answer, Accepted, answer_of}
 use Rattle.refusal.specs.Number.{number_of}
 use Rattle.refusal.specs.Accepted.{is_accepted}
 use Rattle.mesh_balance_spec.specs.Buffer.{flat}
 use Rattle.mesh_spec.specs.Mesh.{Mesh}
 use Rattle.mesh_spec.specs.Slices.{flat_v}
 use Rattle.mesh_check.specs.declared.TriMesh.{TriMesh}
-use Rattle.mesh_check.specs.State.{record_for, empty_record, State, state}
-use Rattle.mesh_made.specs.declared.Made.{Made}
+use Rattle.mesh_check.specs.State.{record_for, empty_record, record_after, State, state}
 
 -- the lengths of the lent slices: floats for vertices, numbers for triangles, numbers of work
 pub record Lent : Type 0 where
@@ -26,21 +25,18 @@ lent vs ts ws = record { vertices = length vs; triangles = length ts; work = len
 unfoldable pub short_work : ℕ → ℕ → Bool
 short_work vertices work = ltb work (2 * (vertices / 3))
 
--- the answer of a refused call: the empty record; and of an accepted one
-abbrev pub refused_with : Refusal → Made
-refused_with q = record { refusal = q; mesh = empty_record }
-
-abbrev pub accepted_with : TriMesh → Made
-accepted_with m = record { refusal = Accepted; mesh = m }
+-- the record of what a call made: the one that it answers, or the empty one where it was refused
+abbrev pub record_made : Result TriMesh Refusal → TriMesh
+record_made = record_after empty_record
 
 -- how the call ends: what is answered, the mesh slices and the work slice
 pub record Ending : Type 0 where
-  pub refusal : Refusal
+  pub refusal : Answer
   pub state : State
   pub work : List ℕ
 
 -- refused: the empty record, all three slices zero
-unfoldable pub refused_as : Refusal → Lent → Ending
+unfoldable pub refused_as : Answer → Lent → Ending
 refused_as q n = record {
   refusal = q;
   state = state empty_record (replicate n.vertices (of_bits binary64 0)) (replicate n.triangles 0);
@@ -58,14 +54,14 @@ accepted_as m n = record {
 }
 
 -- the ending of a call that is refused by q, or makes the mesh m where q is no refusal
-unfoldable pub made_as : Refusal → Mesh → Lent → Ending
+unfoldable pub made_as : Answer → Mesh → Lent → Ending
 made_as q m n = cond (is_accepted q) (accepted_as m n) (refused_as q n)
 
 -- the answer r, its number in docs/SCOPE.md and the slices' final lists are those of the ending
-pub record GivesMade (o : Ending) (r : Made) (vs : List Float) (ts ws : List ℕ) : Type 0 where
-  pub refusal : r.refusal ≡ o.refusal
-  pub number : number_of r.refusal ≡ number_of o.refusal
-  pub mesh : r.mesh ≡ o.state.mesh
+pub record GivesMade (o : Ending) (r : Result TriMesh Refusal) (vs : List Float) (ts ws : List ℕ) : Type 0 where
+  pub refusal : answer_of r ≡ o.refusal
+  pub number : number_of (answer_of r) ≡ number_of o.refusal
+  pub mesh : record_made r ≡ o.state.mesh
   pub vertices : vs ≡ o.state.vertices
   pub triangles : ts ≡ o.state.triangles
   pub work : ws ≡ o.work

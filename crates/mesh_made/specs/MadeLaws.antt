@@ -1,17 +1,13 @@
 -- The record of an ending has the box of the counted vertices. Of an ending that is no refusal: nothing refused the call, and its slices hold the mesh.
 -- Assumes nothing.
-use Rattle.std.specs.Prelude.{◌≡◌, Bool, cond, List, ℕ, ◌-◌, ◌*◌, length, replicate, Float}
+use Rattle.std.specs.Prelude.{Result, ◌≡◌, List, ℕ, ◌-◌, ◌*◌, length, replicate, Float}
 use Rattle.std.proofs.Math.Path.{refl, ap}
 use Rattle.std.proofs.Common.{sym, ◌∙◌, subst}
-use Rattle.std.proofs.Math.Bool.{true, false}
 use Rattle.std.specs.Float.{binary64}
 use Rattle.std.specs.Float.Ieee.{of_bits}
 use Rattle.math.specs.declared.Vec3.{Vec3}
-use Rattle.math.specs.declared.BoundingBox.{BoundingBox}
 use Rattle.refusal.specs.declared.Refusal.{Refusal}
-use Rattle.refusal.specs.declared.Refusal.TheVariants.{Accepted}
-use Rattle.refusal.specs.Accepted.{is_accepted}
-use Rattle.refusal.specs.Laws.{accepted_is}
+use Rattle.refusal.specs.Answer.{Answer}
 use Rattle.mesh_balance_spec.specs.Soup.{Tri}
 use Rattle.mesh_balance_spec.specs.Buffer.{tris, tris_flat}
 use Rattle.mesh_spec.specs.Mesh.{Mesh, no_mesh}
@@ -20,9 +16,7 @@ use Rattle.mesh_spec.specs.Slices.{points}
 use Rattle.mesh_spec.specs.SliceLaws.{points_flat_v, take_flat, take_flat_v}
 use Rattle.mesh_check.specs.declared.TriMesh.{TriMesh}
 use Rattle.mesh_check.specs.State.{State, state, mesh_of}
-use Rattle.mesh_check.specs.StateLaws.{empty_is}
-use Rattle.mesh_made.specs.declared.Made.{Made}
-use Rattle.mesh_made.specs.Made.{Lent, Ending, refused_as, accepted_as, made_as, GivesMade}
+use Rattle.mesh_made.specs.Made.{record_made, Lent, Ending, refused_as, accepted_as, GivesMade}
 
 -- the slices of an accepted ending hold the mesh
 pub laid : (m : Mesh) (n : Lent) → mesh_of (accepted_as m n).state ≡ m
@@ -34,15 +28,15 @@ laid m n =
     λ i. record { vertices = v i; triangles = t i }
 
 -- those of a refused one hold no vertex and no triangle
-pub none_laid : (q : Refusal) (n : Lent) → mesh_of (refused_as q n).state ≡ no_mesh
+pub none_laid : (q : Answer) (n : Lent) → mesh_of (refused_as q n).state ≡ no_mesh
 unfolding mesh_of refused_as
 none_laid q n = refl
 
 -- record and slices as a call leaves them are those of its ending
-pub left_as : {o : Ending} {r : Made} {vs : List Float} {ts ws : List ℕ} → GivesMade o r vs ts ws → o.state ≡ state r.mesh vs ts
+pub left_as : {o : Ending} {r : Result TriMesh Refusal} {vs : List Float} {ts ws : List ℕ} → GivesMade o r vs ts ws → o.state ≡ state (record_made r) vs ts
 left_as g = λ i. state (sym g.mesh i) (sym g.vertices i) (sym g.triangles i)
 
 -- so the record that a call leaves has the box of the vertices that it leaves, where its ending has it
-pub left_bounds : {o : Ending} {r : Made} {vs : List Float} {ts ws : List ℕ} → o.state.mesh.bounds ≡ bounding_box (mesh_of o.state)
-    → GivesMade o r vs ts ws → r.mesh.bounds ≡ bounding_box (mesh_of (state r.mesh vs ts))
+pub left_bounds : {o : Ending} {r : Result TriMesh Refusal} {vs : List Float} {ts ws : List ℕ} → o.state.mesh.bounds ≡ bounding_box (mesh_of o.state)
+    → GivesMade o r vs ts ws → (record_made r).bounds ≡ bounding_box (mesh_of (state (record_made r) vs ts))
 left_bounds h g = subst (λ (s : State). s.mesh.bounds ≡ bounding_box (mesh_of s)) (left_as g) h

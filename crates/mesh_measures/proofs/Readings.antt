@@ -1,10 +1,10 @@
 -- The measures' answers by the tests in their order, and the corners that the sums read. Assumes nothing.
 use mathlib.Core.Path.{◌≡◌, refl, sym, ap, ◌∙◌}
-use mathlib.Core.Bool.{Bool, true, false, cond}
+use mathlib.Core.Bool.{Bool, true, false}
 use mathlib.Core.List.{List, [], ◌∷◌, map}
-use Prim.Native.Nat.{ℕ, zero, suc, ◌+◌, ◌*◌, ◌≤◌, ◌<◌}
+use Prim.Native.Nat.{ℕ, suc, ◌+◌, ◌*◌, ◌<◌}
 use native.Mathlib.Omega.{arith}
-use lib.ListN.{length, take, drop, get_or}
+use lib.ListN.{length, take, get_or}
 use lib.Seq.{length-take-le}
 use lib.Ieee.{Float, binary64, to_bits}
 use Rattle.math.specs.declared.Vec3.{Vec3}
@@ -17,13 +17,15 @@ use Rattle.mesh_spec.specs.Slices.{points, vertex_at}
 use Rattle.mesh_spec.specs.SliceLaws.{length_tris}
 use Rattle.mesh_spec.specs.Measures.{triangle_soup, sum_of, bounding_box}
 use Rattle.refusal.specs.declared.Refusal.{Refusal}
-use Rattle.mesh_measures.specs.declared.Measured.{Measured}
-use Rattle.mesh_check.specs.declared.Boxed.{Boxed}
+use Rattle.std.specs.Prelude.{None, Some, Result, Ok, Err}
+use Rattle.refusal.specs.Answer.{Answer, Accepted, answer_of, answer_with}
+use Rattle.refusal.specs.Laws.{accepted_is, answer_ok, answer_err}
 use Rattle.refusal.specs.Number.{number_of}
 use Rattle.refusal.specs.Accepted.{is_accepted}
 use Rattle.mesh_check.specs.State.{State, mesh_of, check_of, boxed_with, Sound}
+use Rattle.mesh_check.proofs.Sound.{check_sound}
 use Rattle.mesh_triples.specs.Triples.{triple_at, corners_of, AllWithin}
-use Rattle.mesh_measures.specs.Measures.{measure_of, GivesMeasure, bounding_box_of, GivesBox}
+use Rattle.mesh_measures.specs.Measures.{measure_of, bits_answered, GivesMeasure, box_answered, bounding_box_of, GivesBox}
 use Rattle.slice_law.specs.Next.{getD_next}
 use Rattle.mesh_triples.proofs.NextTriples.{next_counted, next_points}
 
@@ -69,24 +71,52 @@ module _ (s : State) (ok : Sound s) where
   sum_is f z r e = e ∙ ap {B = Float} (λ (l : List (Tri Vec3)). sum_of f z l) soup_is
 
 -- ---- the answers
--- the number of an answer is that of the outcome
-gives_measure : (o r : Measured) → r ≡ o → GivesMeasure o r
-gives_measure o r p = record { answer = p; number = ap {B = ℕ} (λ (m : Measured). number_of m.refusal) p }
+-- what the check answered: its refusal, or that the slices are sound
+pub unrefused : (s : State) (b : BoundingBox) → Ok b ≡ answer_with (check_of s) (bounding_box (mesh_of s)) → Sound s
+unrefused s b e = let q = (answer_ok (check_of s) (bounding_box (mesh_of s)) b e).0 in check_sound s Accepted (sym q) refl
 
-gives_box : (o r : Boxed) → r ≡ o → GivesBox o r
-gives_box o r p = record { answer = p; number = ap {B = ℕ} (λ (m : Boxed). number_of m.refusal) p }
+refused_is : (r : Refusal) → is_accepted (Some r) ≡ false
+refused_is r = go (is_accepted (Some r)) refl
+  where
+    go : (b : Bool) → is_accepted (Some r) ≡ b → is_accepted (Some r) ≡ false
+    go false e = e
+    go true e = let no : Some r ≡ Accepted = accepted_is (Some r) e in cc
 
-module _ (f : Mesh → Float) (s : State) (r : Refusal) (e : r ≡ check_of s) where
-  pub measure_refused : is_accepted r ≡ false → GivesMeasure (measure_of f s) (record { refusal = r; bits = 0 })
+module _ (f : Mesh → Float) (s : State) where
+  pub measure_refused : (r : Refusal) (a : Result ℕ Refusal) → a ≡ Err r → Err r ≡ answer_with (check_of s) (bounding_box (mesh_of s)) → GivesMeasure (measure_of f s) a
   unfolding measure_of
-  measure_refused h = gives_measure (measure_of f s) (record { refusal = r; bits = 0 }) ((λ j. record { refusal = e j; bits = 0 }) ∙ sym (rw (sym (ap {B = Bool} is_accepted e) ∙ h)))
+  measure_refused r a p e =
+      let q = answer_err (check_of s) (bounding_box (mesh_of s)) r e in
+      let h : answer_of a ≡ check_of s = ap {B = Answer} answer_of p ∙ q in
+      record {
+        refusal = h;
+        number = ap {B = ℕ} number_of h;
+        bits = ap {B = ℕ} bits_answered p ∙ sym (rw (sym (ap {B = Bool} is_accepted q) ∙ refused_is r));
+      }
 
-  pub measure_done : (x : Float) (b : ℕ) → is_accepted r ≡ true → x ≡ f (mesh_of s) → b ≡ to_bits binary64 x → GivesMeasure (measure_of f s) (record { refusal = r; bits = b })
+  pub measure_done : (b : BoundingBox) (x : Float) (k : ℕ) → Ok b ≡ answer_with (check_of s) (bounding_box (mesh_of s)) → x ≡ f (mesh_of s)
+      → k ≡ to_bits binary64 x → GivesMeasure (measure_of f s) (Ok k)
   unfolding measure_of
-  measure_done x b h v w =
-      gives_measure (measure_of f s) (record { refusal = r; bits = b })
-      ((λ j. record { refusal = e j; bits = (w ∙ ap {B = ℕ} (to_bits binary64) v) j }) ∙ sym (rw (sym (ap {B = Bool} is_accepted e) ∙ h)))
+  measure_done b x k e v w =
+      let q = (answer_ok (check_of s) (bounding_box (mesh_of s)) b e).0 in
+      record {
+        refusal = sym q;
+        number = ap {B = ℕ} number_of (sym q);
+        bits = w ∙ ap {B = ℕ} (to_bits binary64) v ∙ sym (rw (ap {B = Bool} is_accepted q));
+      }
 
-pub box_answered : (s : State) (r : Boxed) → r ≡ boxed_with (check_of s) (bounding_box (mesh_of s)) → GivesBox (bounding_box_of s) r
-unfolding bounding_box_of
-box_answered s r e = gives_box (bounding_box_of s) r e
+pub box_given : (s : State) (r : Result BoundingBox Refusal) → r ≡ answer_with (check_of s) (bounding_box (mesh_of s)) → GivesBox (bounding_box_of s) r
+unfolding bounding_box_of boxed_with
+box_given s r e = go (check_of s) e
+  where
+    go : (q : Answer) → r ≡ answer_with q (bounding_box (mesh_of s)) → GivesBox (boxed_with q (bounding_box (mesh_of s))) r
+    go None e = record {
+      refusal = ap {B = Answer} answer_of e;
+      number = ap {B = ℕ} (λ (a : Result BoundingBox Refusal). number_of (answer_of a)) e;
+      bounds = ap {B = BoundingBox} box_answered e;
+    }
+    go (Some p) e = record {
+      refusal = ap {B = Answer} answer_of e;
+      number = ap {B = ℕ} (λ (a : Result BoundingBox Refusal). number_of (answer_of a)) e;
+      bounds = ap {B = BoundingBox} box_answered e ∙ sym (rw (refused_is p));
+    }

@@ -8,7 +8,6 @@ mod under_matrix;
 
 use math::BoundingBox;
 use math_matrix::Mat4;
-use mesh_triples::{put_vertex, vertex};
 pub use under_matrix::move_mesh;
 
 // Puts the first n vertices under the matrix, and answers their box after it. A point is divided by its fourth coordinate where that is neither 0 nor 1.
@@ -16,16 +15,7 @@ fn move_divided(vertices: &mut [f64], n: usize, a: Mat4) -> BoundingBox
     requires { 3 * n ≤ length vertices.old }
     ensures { MovesTo a n vertices.old result vertices.new }
 {
-    let mut b = math_box::empty_box();
-    let mut i = 0;
-    while i < n {
-        let v = vertex(vertices, i);
-        let p = math_matrix_ops::transform_point(a, v);
-        put_vertex(vertices, i, p);
-        b = math_box::include(b, p);
-        i += 1;
-    }
-    mesh_box::plus_zero(b)
+    mesh_move_affine::move_by(vertices, n, |p| math_matrix_ops::transform_point(a, p))
 }
 
 // Puts the first n vertices, which are finite, under the matrix, and answers their box after it.

@@ -19,10 +19,8 @@ use Rattle.slice_law.specs.Bools.{and_left, and_right, and_both}
 use Rattle.slice.specs.Every.{every}
 use Rattle.mesh_spec.specs.Decides.{Decides}
 use Rattle.mesh_spec.specs.Slices.{vertex_at}
-use Rattle.mesh_triples.specs.Triples.{each_to, moved_triple}
 use Rattle.mesh_move_affine.specs.Affine.{Affine, affine_point, Movable}
 use Rattle.slice.specs.EveryLaws.{every_at}
-use Rattle.mesh_move_affine.proofs.Gathering.{unmoved}
 
 -- ---- the tests of the last row
 is_zero_lem : (x : Float) → fits binary64 x ≡ true → eq x plus_zero ≡ true → T (is_zero x)
@@ -107,9 +105,3 @@ pub affine_vertex : (vs : List Float) (n : ℕ) (a : Mat4) → Movable vs n a �
 affine_vertex vs n a m i h =
     let at : (j : ℕ) → j < 3 * n → T (finite (get_or vs j nan)) = λ j k. true_T (finite (get_or vs j nan)) (every_at finite vs (3 * n) j nan m.vertices.finite k m.vertices.within) in
     affine_point_lem a m.affine (vertex_at vs i) (at (3 * i) (omega arith)) (at (3 * i + 1) (omega arith)) (at (3 * i + 2) (omega arith))
-
--- the same where the vertices before it are moved already
-pub affine_moved : (vs : List Float) (n : ℕ) (a : Mat4) → Movable vs n a → (i : ℕ) → i < n → (out : List Float) → out ≡ each_to (moved_triple a) i vs
-    → affine_point a (vertex_at out i) ≡ transform_point a (vertex_at out i)
-affine_moved vs n a m i h out e =
-    subst (λ (p : Vec3). affine_point a p ≡ transform_point a p) (sym (unmoved a vs i out (omega (arith, m.vertices.within)) e)) (affine_vertex vs n a m i h)

@@ -1,5 +1,5 @@
 -- A loop that puts each vertex under a matrix and gathers the box of the vertices after it: what it keeps, one turn of it, and its end. Assumes nothing.
-use mathlib.Core.Path.{◌≡◌, ap, ◌∙◌}
+use mathlib.Core.Path.{◌≡◌, sym, ap, ◌∙◌}
 use mathlib.Core.List.{List, map}
 use Prim.Native.Nat.{ℕ, ◌+◌, ◌*◌, ◌≤◌, ◌<◌}
 use native.Mathlib.Omega.{arith}
@@ -37,13 +37,14 @@ gathering_start a vs n b e = record {
 
 module _ (a : Mat4) (vs : List Float) (n : ℕ) (within : 3 * n ≤ length vs) where
   -- p is the point that the code stores and includes
-  pub gathering_turn : (out next : List Float) (p : Vec3) (b c : BoundingBox) (i : ℕ) → i < n → p ≡ transform_point a (vertex_at out i) → next ≡ put_vertex out i p
+  pub gathering_turn : (out next : List Float) (p : Vec3) (b c : BoundingBox) (i : ℕ) → i < n → p ≡ transform_point a (vertex_at vs i) → next ≡ put_vertex out i p
       → c ≡ include b p → Gathering a vs n out b i → Gathering a vs n next c (i + 1)
   gathering_turn out next p b c i h e w k g = let l = points (take (3 * n) vs) in record {
-    moved = moving_turn (transform_point a) vs n within out next p i h e w g.moved;
+    moved = moving_turn (transform_point a) vs n within out next p i h
+        (e ∙ ap {B = Vec3} (transform_point a) (sym (unmoved a vs i out (omega arith) g.moved.2))) w g.moved;
     bounds = including_turn (map (transform_point a) l) i (transform_point a (vertex_at vs i)) p b c
         (next_map (transform_point a) l i (vertex_at vs i) (next_points vs n i h within))
-        (e ∙ ap {B = Vec3} (transform_point a) (unmoved a vs i out (omega arith) g.moved.2)) k g.bounds;
+        e k g.bounds;
   }
 
   -- r is b with +0.0 for −0.0

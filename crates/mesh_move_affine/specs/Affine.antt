@@ -7,7 +7,7 @@ use Rattle.math.specs.declared.BoundingBox.{BoundingBox}
 use Rattle.math_matrix.specs.declared.Mat4.{Mat4}
 use Rattle.math.specs.Vec.{one, new}
 use Rattle.math_matrix.specs.Mat.{entry, row_of, along, transform_point}
-use Rattle.mesh_spec.specs.Slices.{points}
+use Rattle.mesh_spec.specs.Slices.{points, vertex_at}
 use Rattle.mesh_spec.specs.Measures.{box_of}
 use Rattle.mesh_triples.specs.Triples.{each_to, moved_triple}
 use Rattle.slice.specs.Every.{every}
@@ -34,6 +34,10 @@ pub record FiniteVertices (vs : List Float) (n : ℕ) : Type 0 where
 pub record Movable (vs : List Float) (n : ℕ) (a : Mat4) : Type 0 where
   pub vertices : FiniteVertices vs n
   pub affine : Affine a
+
+-- at each of the first n vertices of the slice, what `gives` relates to it is the value of f there
+abbrev pub Computes : (Vec3 → Vec3 → Type 0) → (Vec3 → Vec3) → List Float → ℕ → Type 0
+Computes gives f vs n = (i : ℕ) → i < n → (q : Vec3) → gives (vertex_at vs i) q → q ≡ f (vertex_at vs i)
 
 -- the first n vertices of the slice vs put under a matrix: the slice after it, and r, the box of these vertices after it
 pub record MovesTo (a : Mat4) (n : ℕ) (vs : List Float) (r : BoundingBox) (vs' : List Float) : Type 0 where

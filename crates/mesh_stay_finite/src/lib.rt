@@ -9,20 +9,13 @@ ghost use Rattle.slice.specs.Every.{every};
 ghost use Rattle.mesh_move_affine.specs.Affine.{Tested};
 
 use math_matrix::Mat4;
-use mesh_triples::vertex;
 
 // Whether the first n vertices are finite after the matrix. A point is divided by its fourth coordinate where that is neither 0 nor 1.
 fn stay_finite_divided(vertices: &[f64], n: usize, a: Mat4) -> bool
     requires { 3 * n ≤ length vertices.now }
     ensures { result ≡ every v_finite (map (transform_point a) (points (take (3 * n) vertices.now))) }
 {
-    let mut ok = true;
-    let mut i = 0;
-    while i < n {
-        ok = ok & math::is_finite(math_matrix_ops::transform_point(a, vertex(vertices, i)));
-        i += 1;
-    }
-    ok
+    mesh_move_affine::all_finite_by(vertices, n, |p| math_matrix_ops::transform_point(a, p))
 }
 
 // Whether the first n vertices, which are finite, are so after the matrix. None is computed where `small` says that they

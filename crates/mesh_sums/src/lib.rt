@@ -41,19 +41,18 @@ fn area_term(vertices: &[f64], triangles: &[u32], i: usize) -> f64
     let a = corner(vertices, triangles, at);
     let b = corner(vertices, triangles, at + 1);
     let c = corner(vertices, triangles, at + 2);
-    root::sqrt(math_norm::norm_sq(math_norm::cross(math::sub(b, a), math::sub(c, a)))) / 2.0
+    root::sqrt(math_norm::norm_sq(math_norm::cross(b - a, c - a))) / 2.0
 }
 
 // The sum of the volume terms of the first k triangles.
+// Apart from area_sum, a loop of one line: over one function with a closure each would state what its term gives, which is longer than the loop.
 pub fn volume_sum(vertices: &[f64], triangles: &[u32], k: usize) -> f64
     requires { AllWithin vertices.now triangles.now k }
     ensures { result ≡ sum_of volume_term (of_bits binary64 0) (corners_of vertices.now triangles.now k) }
 {
     let mut sum = 0.0;
-    let mut i = 0;
-    while i < k {
+    for i in 0..k {
         sum = sum + volume_term(vertices, triangles, i);
-        i += 1;
     }
     sum
 }
@@ -64,10 +63,8 @@ pub fn area_sum(vertices: &[f64], triangles: &[u32], k: usize) -> f64
     ensures { result ≡ sum_of area_term (of_bits binary64 0) (corners_of vertices.now triangles.now k) }
 {
     let mut sum = 0.0;
-    let mut i = 0;
-    while i < k {
+    for i in 0..k {
         sum = sum + area_term(vertices, triangles, i);
-        i += 1;
     }
     sum
 }

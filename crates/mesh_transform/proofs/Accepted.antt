@@ -8,8 +8,7 @@ use lib.Dec.{eqb}
 use Rattle.math.specs.Vec.{v_finite}
 use Rattle.transform.specs.declared.TransformOp.{TransformOp}
 use Rattle.transform.specs.Checks.{too_many_ops, ops_finite, ops_angles_within}
-use Rattle.refusal.specs.declared.Refusal.{Refusal}
-use Rattle.refusal.specs.declared.Refusal.TheVariants.{Accepted, NotFinite, AngleTooLarge, BadList, PointNotFinite, BadMesh}
+use Rattle.refusal.specs.Answer.{Answer, Accepted, NotFinite, AngleTooLarge, BadList, PointNotFinite, BadMesh}
 use Rattle.slice.specs.Every.{every}
 use Rattle.refusal.specs.Accepted.{is_accepted}
 use Rattle.mesh_check.specs.State.{State, mesh_of, bad_mesh, not_finite, bad_box, Sound}
@@ -18,7 +17,7 @@ use Rattle.mesh_check_transform.specs.Transform.{transformed, transform_refusal}
 use Rattle.slice_law.specs.Bools.{neither}
 use Rattle.mesh_check.proofs.Sound.{not_bad, sound, finite_vertices}
 
-third : (a b c : Bool) (q : Refusal) → is_accepted (cond a BadMesh (cond b BadList (cond c NotFinite q))) ≡ true → c ≡ false
+third : (a b c : Bool) (q : Answer) → is_accepted (cond a BadMesh (cond b BadList (cond c NotFinite q))) ≡ true → c ≡ false
 third true b c q e = absurd (false≢true e)
 third false true c q e = absurd (false≢true e)
 third false false true q e = absurd (false≢true e)
@@ -26,14 +25,14 @@ third false false false q e = refl
 
 module _ (s : State) where
   -- what a transform tests after 8, 4 and 1: the box, 2 and 5
-  abbrev after : List TransformOp → ℕ → Bool → Refusal
+  abbrev after : List TransformOp → ℕ → Bool → Answer
   after ops count degrees =
       cond (bad_box s) BadMesh
       (cond (not (ops_angles_within degrees (take count ops))) AngleTooLarge
       (cond (eqb count 0) Accepted
       (cond (every v_finite (transformed ops count degrees (mesh_of s)).vertices) Accepted PointNotFinite)))
 
-  module _ (ops : List TransformOp) (count : ℕ) (degrees : Bool) (r : Refusal) (e : r ≡ transform_refusal ops count degrees s) (h : is_accepted r ≡ true) where
+  module _ (ops : List TransformOp) (count : ℕ) (degrees : Bool) (r : Answer) (e : r ≡ transform_refusal ops count degrees s) (h : is_accepted r ≡ true) where
     abbrev bad_op : Bool
     bad_op = not (ops_finite (take count ops))
 

@@ -1,10 +1,10 @@
 -- A loop that copies numbers or floats to a place of a slice. Assumes nothing.
 use mathlib.Core.Path.{◌≡◌, refl, sym, ap, ◌∙◌}
 use mathlib.Core.List.{List, [], ◌∷◌, map}
-use Prim.Native.Nat.{ℕ, zero, suc, ◌+◌, ◌≤◌, ◌<◌}
+use Prim.Native.Nat.{ℕ, zero, suc, ◌+◌, ◌<◌}
 use native.Mathlib.Omega.{arith}
 use native.Mathlib.Numerals.{add-one}
-use lib.ListN.{length, get_or, set, take, length-map}
+use lib.ListN.{length, get_or, set, length-map}
 use lib.Seq.{paste, paste-suc}
 
 module _ {A : Type 0} where

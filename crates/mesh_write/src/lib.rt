@@ -11,11 +11,7 @@ pub fn copy(out: &mut [f64], at: usize, from: &[f64], count: usize)
     requires { (at + count ≤ length out.old) × (count ≤ length from.now) }
     ensures { out.new ≡ paste out.old at from.now count }
 {
-    let mut i = 0;
-    while i < count {
-        out[at + i] = from[i];
-        i += 1;
-    }
+    out[at..at + count].copy_from_slice(&from[..count]);
 }
 
 // Writes the first count numbers of from, each with n added, at place at.
@@ -23,10 +19,8 @@ pub fn copy_up(out: &mut [u32], at: usize, from: &[u32], count: usize, n: u32)
     requires { (at + count ≤ length out.old) × (count ≤ length from.now) × ((i : ℕ) → i < count → get_or from.now i 0 + n < 2 ^ 32) }
     ensures { out.new ≡ paste out.old at (map (λ i. i + n) from.now) count }
 {
-    let mut i = 0;
-    while i < count {
+    for i in 0..count {
         out[at + i] = from[i] + n;
-        i += 1;
     }
 }
 
@@ -35,11 +29,7 @@ fn turn(triangles: &mut [u32], i: usize)
     requires { 3 * i + 3 ≤ length triangles.old }
     ensures { triangles.new ≡ put_triple triangles.old i (flip_tri (triple_at triangles.old i 0)) }
 {
-    let at = 3 * i;
-    let b = triangles[at + 1];
-    let c = triangles[at + 2];
-    triangles[at + 1] = c;
-    triangles[at + 2] = b;
+    triangles.swap(3 * i + 1, 3 * i + 2);
 }
 
 // Exchanges the second and third number of each of the first count triangles.
@@ -47,9 +37,7 @@ pub fn turn_all(triangles: &mut [u32], count: usize)
     requires { 3 * count ≤ length triangles.old }
     ensures { triangles.new ≡ each_to flip_tri count triangles.old }
 {
-    let mut i = 0;
-    while i < count {
+    for i in 0..count {
         turn(triangles, i);
-        i += 1;
     }
 }

@@ -9,6 +9,7 @@ use native.Mathlib.Omega.{arith}
 use lib.ListN.{length, get_or, take, drop, set, length-drop, length-set}
 use lib.Seq.{drop-cons, take-suc-set, drop-set-lt, get_or-take, length-take-le, take-take}
 use lib.Ieee.{Float, nan, binary64, add, div, eq, of_bits}
+use lib.Dec.{ltb}
 use borrow.Author.Tests.{lt-ltb}
 use Rattle.outline.specs.Corners.{point, same}
 use Rattle.outline.specs.Clean.{ends_in, pushed, gathered, stay, clean_polygon}
@@ -37,7 +38,7 @@ point_take : (o : List Float) (m j : ℕ) → j < m → point (take (2 * m) o) j
 unfolding point
 point_take o m j h = rw (get_or-take (2 * m) o (2 * j) nan (omega arith), get_or-take (2 * m) o (2 * j + 1) nan (omega arith))
 
-pub ends_none : (o : List Float) (m : ℕ) (p : Point) → m ≡ 0 → false ≡ ends_in (take (2 * m) o) p
+pub ends_none : (o : List Float) (m : ℕ) (p : Point) → m ≡ 0 → ltb 0 m ≡ ends_in (take (2 * m) o) p
 unfolding ends_in
 ends_none o m p h = rw h
 
@@ -148,13 +149,3 @@ unfolding signed_area sides
 area_is v s i h q =
     let e : length v / 2 - i ≡ 0 = omega arith in
     ap (λ (x : Float). div binary64 x (of_bits binary64 0x4000_0000_0000_0000)) (ap (sides v (length v / 2) s i) (sym e) ∙ q)
-
--- ---- corners that are equal
-
-pub same_first : (p q : Point) → eq p.x q.x ≡ true → eq p.y q.y ≡ same p q
-unfolding same
-same_first p q h = rw h
-
-pub same_not : (p q : Point) → eq p.x q.x ≡ false → false ≡ same p q
-unfolding same
-same_not p q h = rw h

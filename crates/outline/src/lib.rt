@@ -1,12 +1,13 @@
-// The corners of an outline in a lent list, two floats to a corner: reading, writing and comparing them.
+// The corners of an outline in a lent list, two floats to a corner: reading and writing them.
+// Not a slice of Point: the list is lent as floats, by C too, and whether they are whole corners is refusal 4.
 #![tactic(auto)]
 
 ghost use Rattle.std.specs.Prelude.{◌≡◌, ◌+◌, ◌*◌, ◌<◌, ◌≤◌, length};
-ghost use Rattle.outline.specs.Corners.{point, same as same·};
+ghost use Rattle.outline.specs.Corners.{point};
 ghost use Rattle.outline.specs.Slices.{WroteCorner};
 
-// A point of an outline's plane.
-#[derive(Clone, Copy)]
+// A point of an outline's plane. Its == is the definition `same`: equal as floats go, as the Rust's == on corners.
+#[derive(Clone, Copy, PartialEq)]
 pub struct Point {
     pub x: f64,
     pub y: f64,
@@ -29,16 +30,6 @@ pub fn corner(corners: &[f64], i: usize) -> Point
         x: corners[at],
         y: corners[at + 1],
     }
-}
-
-// Whether two points are equal as floats go: the Rust's == on corners.
-pub fn same(p: Point, q: Point) -> bool
-    ensures { result ≡ same· p q }
-{
-    if p.x == q.x {
-        return p.y == q.y;
-    }
-    false
 }
 
 // The point of corner m of out becomes p.

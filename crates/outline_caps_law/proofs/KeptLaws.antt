@@ -8,8 +8,7 @@ use Rattle.mesh_balance_spec.specs.Soup.{Weight, rev}
 use Rattle.outline.specs.Corners.{point}
 use Rattle.outline_triangle.specs.Triangle.{cross}
 use Rattle.outline_ears.specs.Ears.{ip, inx, is_ear, is_flat, first_ear, first_flat}
-use Rattle.outline_ears.specs.declared.Found.{Found}
-use Rattle.outline_ears.specs.declared.Found.TheVariants.{At, Nothing}
+use Rattle.std.specs.Prelude.{Option, Some, None}
 use Rattle.outline_ears.proofs.Laws.{find_below}
 use Rattle.outline_remaining.specs.Without.{without}
 use Rattle.outline_triangulate.specs.Triangulate.{Clipping, fan, clipped, dropped, fanned, by_found, pass, passes, finished}
@@ -49,17 +48,17 @@ fanned_kept s h3 =
     }
 
 -- a pass, by what the searches find
-pass_flat_kept : (v : List Float) (e : Float) (s : Clipping) (f : Found) → first_flat v e s.idx ≡ f → 3 < length s.idx
+pass_flat_kept : (v : List Float) (e : Float) (s : Clipping) (f : Option ℕ) → first_flat v e s.idx ≡ f → 3 < length s.idx
     → Kept s (by_found f (dropped s) (fanned s))
 unfolding by_found first_flat
-pass_flat_kept v e s (At k) h h3 = dropped_kept s k (omega (arith, find_below (is_flat v e s.idx) (length s.idx) 0 k h)) h3
-pass_flat_kept v e s Nothing h h3 = fanned_kept s h3
+pass_flat_kept v e s (Some k) h h3 = dropped_kept s k (omega (arith, find_below (is_flat v e s.idx) (length s.idx) 0 k h)) h3
+pass_flat_kept v e s None h h3 = fanned_kept s h3
 
-pass_ear_kept : (v : List Float) (e : Float) (s : Clipping) (f : Found) → first_ear v e s.idx ≡ f → 3 < length s.idx
+pass_ear_kept : (v : List Float) (e : Float) (s : Clipping) (f : Option ℕ) → first_ear v e s.idx ≡ f → 3 < length s.idx
     → Kept s (by_found f (clipped s) (by_found (first_flat v e s.idx) (dropped s) (fanned s)))
 unfolding by_found first_ear
-pass_ear_kept v e s (At k) h h3 = clipped_kept s k (omega (arith, find_below (is_ear v e s.idx) (length s.idx) 0 k h)) h3
-pass_ear_kept v e s Nothing h h3 = pass_flat_kept v e s (first_flat v e s.idx) refl h3
+pass_ear_kept v e s (Some k) h h3 = clipped_kept s k (omega (arith, find_below (is_ear v e s.idx) (length s.idx) 0 k h)) h3
+pass_ear_kept v e s None h h3 = pass_flat_kept v e s (first_flat v e s.idx) refl h3
 
 pass_kept : (v : List Float) (e : Float) (s : Clipping) → 3 < length s.idx → Kept s (pass v e s)
 unfolding pass

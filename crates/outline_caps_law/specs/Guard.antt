@@ -6,8 +6,7 @@ use Rattle.std.specs.Float.Ieee.{lt}
 use Rattle.outline.specs.Corners.{point}
 use Rattle.outline_triangle.specs.Triangle.{cross, tolerance}
 use Rattle.outline_ears.specs.Ears.{counting, is_ear, is_flat, first_ear, first_flat}
-use Rattle.outline_ears.specs.declared.Found.{Found}
-use Rattle.outline_ears.specs.declared.Found.TheVariants.{At, Nothing}
+use Rattle.std.specs.Prelude.{Option, Some, None}
 use Rattle.outline_ears.proofs.Laws.{find_below}
 use Rattle.outline_remaining.specs.Without.{without}
 use Rattle.outline_triangulate.specs.Triangulate.{Clipping, clipped, dropped, fanned, by_found, pass, passes, finished, start, triangulated}
@@ -18,26 +17,26 @@ use Rattle.outline_caps_law.specs.Caps.{counting_length}
 
 -- ---- a pass removes a corner, or ends
 
-pass_spent_flat : (v : List Float) (e : Float) (s : Clipping) (f : Found) → first_flat v e s.idx ≡ f → 3 < length s.idx
+pass_spent_flat : (v : List Float) (e : Float) (s : Clipping) (f : Option ℕ) → first_flat v e s.idx ≡ f → 3 < length s.idx
     → ((by_found f (dropped s) (fanned s)).removed + 3 ≤ s.removed + length s.idx) ×
     ((by_found f (dropped s) (fanned s)).removed + length (by_found f (dropped s) (fanned s)).idx ≤ s.removed + length s.idx) ×
     (length (by_found f (dropped s) (fanned s)).idx < length s.idx)
 unfolding by_found first_flat dropped fanned
-pass_spent_flat v e s (At k) h h3 =
+pass_spent_flat v e s (Some k) h h3 =
     let b : k < length s.idx = omega (arith, find_below (is_flat v e s.idx) (length s.idx) 0 k h) in
     let n : length (without k s.idx) ≡ length s.idx - 1 = length_without k s.idx b in
     (omega arith, omega arith, omega arith)
-pass_spent_flat v e s Nothing h h3 = (omega arith, omega arith, omega arith)
+pass_spent_flat v e s None h h3 = (omega arith, omega arith, omega arith)
 
-pass_spent_ear : (v : List Float) (e : Float) (s : Clipping) (f : Found) → first_ear v e s.idx ≡ f → 3 < length s.idx
+pass_spent_ear : (v : List Float) (e : Float) (s : Clipping) (f : Option ℕ) → first_ear v e s.idx ≡ f → 3 < length s.idx
     → let r = by_found f (clipped s) (by_found (first_flat v e s.idx) (dropped s) (fanned s)) in
     (r.removed + 3 ≤ s.removed + length s.idx) × (r.removed + length r.idx ≤ s.removed + length s.idx) × (length r.idx < length s.idx)
 unfolding by_found first_ear clipped
-pass_spent_ear v e s (At k) h h3 =
+pass_spent_ear v e s (Some k) h h3 =
     let b : k < length s.idx = omega (arith, find_below (is_ear v e s.idx) (length s.idx) 0 k h) in
     let n : length (without k s.idx) ≡ length s.idx - 1 = length_without k s.idx b in
     (omega arith, omega arith, omega arith)
-pass_spent_ear v e s Nothing h h3 = pass_spent_flat v e s (first_flat v e s.idx) refl h3
+pass_spent_ear v e s None h h3 = pass_spent_flat v e s (first_flat v e s.idx) refl h3
 
 pub pass_spent : (v : List Float) (e : Float) (s : Clipping) → 3 < length s.idx
     → ((pass v e s).removed + 3 ≤ s.removed + length s.idx) × ((pass v e s).removed + length (pass v e s).idx ≤ s.removed + length s.idx) ×

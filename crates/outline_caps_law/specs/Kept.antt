@@ -7,8 +7,6 @@ use Rattle.mesh_balance_spec.specs.Soup.{Weight, rev}
 use Rattle.outline.specs.Corners.{point}
 use Rattle.outline_triangle.specs.Triangle.{cross}
 use Rattle.outline_ears.specs.Ears.{ip, inx, is_ear, is_flat, first_ear, first_flat}
-use Rattle.outline_ears.specs.declared.Found.{Found}
-use Rattle.outline_ears.specs.declared.Found.TheVariants.{At, Nothing}
 use Rattle.outline_ears.proofs.Laws.{find_below}
 use Rattle.outline_remaining.specs.Without.{without}
 use Rattle.outline_triangulate.specs.Triangulate.{Clipping, fan, clipped, dropped, fanned, by_found, pass, passes, finished}

@@ -5,17 +5,14 @@ ghost use Rattle.std.specs.Prelude.{◌≡◌, [], ◌+◌, ◌*◌, ◌≤◌, 
 ghost use Rattle.outline.specs.Clean.{ends_in, pushed, gathered, stay as stay·, clean_polygon};
 ghost use Rattle.outline.specs.Slices.{Grew, Holds};
 
-use outline::{Point, corner, put_corner, same};
+use outline::{Point, corner, put_corner};
 
 // Whether the last of out's first m corners equals p.
 fn ends_in(out: &[f64], m: usize, p: Point) -> bool
     requires { 2 * m ≤ length out.now }
     ensures { result ≡ ends_in (take (2 * m) out.now) p }
 {
-    if m == 0 {
-        return false;
-    }
-    same(corner(out, m - 1), p)
+    0 < m && corner(out, m - 1) == p
 }
 
 // The Rust's first loop, for one corner: p after out's first m, unless the last of them equals it; and how many there are then.
@@ -36,12 +33,9 @@ fn stay(out: &[f64], m: usize) -> usize
     ensures { (result ≡ stay· out.now m) × (result ≤ m) }
 {
     let mut k = m;
-    while 1 < k {
-        if same(corner(out, 0), corner(out, k - 1)) {
-            k -= 1;
-        } else {
-            return k;
-        }
+    // A `while`: how many corners go depends on the corners, and the answer is where it stops; a range would need a return and an answer after it.
+    while 1 < k && corner(out, 0) == corner(out, k - 1) {
+        k -= 1;
     }
     k
 }
@@ -51,13 +45,9 @@ fn gather(v: &[f64], out: &mut [f64]) -> usize
     requires { length v.now ≤ length out.old }
     ensures { (take (2 * result) out.new ≡ gathered [] v.now) × (2 * result ≤ length out.old) }
 {
-    let n = v.len() / 2;
     let mut m = 0;
-    let mut i = 0;
-    while i < n {
-        let p = corner(v, i);
-        m = push(out, m, p);
-        i += 1;
+    for i in 0..v.len() / 2 {
+        m = push(out, m, corner(v, i));
     }
     m
 }

@@ -1,41 +1,23 @@
 -- Laws of `clip_outline`, in the form that the code goes by. Assumes nothing.
-use Prim.Native.Nat.{ℕ, zero, suc, ◌+◌, ◌-◌, ◌*◌, ◌/◌, ◌%◌, ◌<◌, ◌≤◌}
+use Prim.Native.Nat.{ℕ, zero, suc, ◌-◌, ◌*◌, ◌/◌, ◌%◌, ◌<◌, ◌≤◌}
 use mathlib.Core.Path.{◌≡◌, sym, ap, ◌∙◌}
 use mathlib.Core.Bool.{true, false}
-use mathlib.Core.List.{List, [], ◌∷◌, ◌++◌}
-use native.Mathlib.Numerals.{add-one}
+use mathlib.Core.List.{List, ◌++◌}
 use native.Mathlib.Nat.{sub-zero, zero-sub, suc-sub-suc}
 use native.Mathlib.Omega.{arith}
-use lib.ListN.{length, get_or, take, drop, set, replicate, take-append-drop}
-use lib.Seq.{take-suc, take-suc-set, drop-set-lt, take_at}
+use lib.ListN.{length, take, drop, replicate}
+use lib.Seq.{take_at}
 use lib.Ieee.{Float}
 use lib.Ieee.Scale.{finite}
 use borrow.Author.Tests.{lt-ltb, le-ltb, eq-eqb, ne_eqb}
-use Rattle.refusal.specs.declared.Refusal.TheVariants.{Accepted, BadList, NotFinite, NoRoom}
+use Rattle.refusal.specs.declared.Refusal.{Refusal}
+use Rattle.refusal.specs.declared.Refusal.TheVariants.{BadList, NotFinite, NoRoom}
+use Rattle.std.specs.Prelude.{Ok, Err}
 use Rattle.slice.specs.Every.{every}
 use Rattle.outline_triangulate.specs.Triangulate.{triangulate_polygon}
 use Rattle.outline_triangulate.specs.Slices.{CutAs}
 use Rattle.outline_clip.specs.Clip.{ClipOutcome, clip_refused, clip_accepted, clip_outline, outcome_of}
 use Rattle.outline_triangulate.specs.declared.Cut.{Cut}
-use Rattle.outline_clip.specs.declared.Clipped.{Clipped}
-use Rattle.slice_law.specs.Lists.{drop_further}
-
--- ---- copies
-
-module _ (o f o₀ : List ℕ) (i : ℕ) (ho : i < length o) (hf : i < length f) where
-  pub copy_front : take i o ≡ take i f → take (i + 1) (set o i (get_or f i 0)) ≡ take (i + 1) f
-  copy_front e =
-      ap (λ (n : ℕ). take n (set o i (get_or f i 0))) (add-one i)
-      ∙ take-suc-set o i (get_or f i 0) ho
-      ∙ ap (λ (l : List ℕ). l ++ (get_or f i 0 ∷ [])) e
-      ∙ sym (take-suc f i 0 hf)
-      ∙ ap (λ (n : ℕ). take n f) (sym (add-one i))
-
-  pub copy_rest : drop i o ≡ drop i o₀ → drop (i + 1) (set o i (get_or f i 0)) ≡ drop (i + 1) o₀
-  copy_rest e = drop-set-lt (i + 1) o i (get_or f i 0) (omega arith) ∙ drop_further i (i + 1) o o₀ (omega arith) e
-
-pub copied : (o f o₀ : List ℕ) (n : ℕ) → take n o ≡ take n f → drop n o ≡ drop n o₀ → o ≡ take n f ++ drop n o₀
-copied o f o₀ n e d = sym (take-append-drop n o) ∙ ap (λ (l : List ℕ). l ++ drop n o) e ∙ ap (λ (l : List ℕ). take n f ++ l) d
 
 drop_replicate : (k m : ℕ) → drop {A = ℕ} k (replicate m 0) ≡ replicate (m - k) 0
 drop_replicate zero m = ap (λ (n : ℕ). replicate n 0) (sym (sub-zero m))
@@ -44,9 +26,10 @@ drop_replicate (suc k) (suc m) = drop_replicate k m ∙ ap (λ (n : ℕ). replic
 
 -- ---- the outcome, by the tests
 
--- a refused call: r has the counts 0, and the slice is all zero
-pub outcome_refused : (r : Clipped) (a : List ℕ) (m : ℕ) (o p : ClipOutcome) → a ≡ replicate m 0 → outcome_of r (replicate m 0) ≡ o → o ≡ p → outcome_of r a ≡ p
-outcome_refused r a m o p e q s = ap (outcome_of r) e ∙ q ∙ s
+-- a refused call: the slice is all zero
+pub outcome_refused : (r : Refusal) (a : List ℕ) (m : ℕ) (p : ClipOutcome) → a ≡ replicate m 0 → clip_refused r m ≡ p → outcome_of (Err r) a ≡ p
+unfolding clip_refused
+outcome_refused r a m p e s = ap (outcome_of (Err r)) e ∙ s
 
 module _ (v : List Float) (m : ℕ) where
   pub outcome_long : 1024 < length v → clip_refused BadList m ≡ clip_outline v m
@@ -88,11 +71,11 @@ module _ (v : List Float) (m : ℕ) where
 
         -- o is the slice before the triangles were copied into it
         pub outcome_done : (o x : List ℕ) → c.triangles ≤ m / 3 → o ≡ replicate m 0 → x ≡ take (3 * c.triangles) a ++ drop (3 * c.triangles) o
-            → outcome_of (record { refusal = Accepted; triangles = c.triangles; removed = c.removed }) x ≡ clip_outline v m
+            → outcome_of (Ok c) x ≡ clip_outline v m
         unfolding clip_accepted
         outcome_done o x h eo ex =
             let q : x ≡ (triangulate_polygon v).triangles ++ replicate (m - length (triangulate_polygon v).triangles) 0 =
             ex ∙ ap (λ (l : List ℕ). take (3 * c.triangles) a ++ drop (3 * c.triangles) l) eo ∙ slice in
-            let e : outcome_of (record { refusal = Accepted; triangles = c.triangles; removed = c.removed }) x ≡ clip_accepted (triangulate_polygon v) m =
+            let e : outcome_of (Ok c) x ≡ clip_accepted (triangulate_polygon v) m =
             rw (q, ← count, g.removed) in
             e ∙ outcome_accepted h

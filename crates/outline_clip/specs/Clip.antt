@@ -1,12 +1,13 @@
 -- Clipping an outline by itself (docs/SCOPE.md, "Refusals"): the checks 4, 1, 7 in that order, the counts and the triangle slice at the end.
 -- v is the corner list as given, and m the length of the triangle slice. Assumes nothing.
-use Rattle.std.specs.Prelude.{ℕ, ◌-◌, ◌/◌, ◌%◌, cond, not, ◌||◌, List, ◌++◌, length, replicate, ltb, eqb, Float}
+use Rattle.std.specs.Prelude.{Result, Ok, Err, Some, ℕ, ◌-◌, ◌/◌, ◌%◌, cond, not, ◌||◌, List, ◌++◌, length, replicate, ltb, eqb, Float}
 use Rattle.std.specs.Float.Ieee.Scale.{finite}
 use Rattle.refusal.specs.Number.{number_of}
 use Rattle.refusal.specs.declared.Refusal.{Refusal}
-use Rattle.refusal.specs.declared.Refusal.TheVariants.{Accepted, BadList, NotFinite, NoRoom}
+use Rattle.refusal.specs.declared.Refusal.TheVariants.{BadList, NotFinite, NoRoom}
+use Rattle.refusal.specs.Answer.{Accepted}
 use Rattle.slice.specs.Every.{every}
-use Rattle.outline_clip.specs.declared.Clipped.{Clipped}
+use Rattle.outline_triangulate.specs.declared.Cut.{Cut}
 use Rattle.outline_triangulate.specs.Triangulate.{Clipping, triangulate_polygon}
 
 -- the refusal's number, 0 for none; the triangles given; the corners removed singly; the whole triangle slice
@@ -18,7 +19,7 @@ pub record ClipOutcome : Type 0 where
 
 -- refused: counts 0, the slice all zero
 unfoldable pub clip_refused : Refusal → ℕ → ClipOutcome
-clip_refused r m = record { refusal = number_of r; triangles = 0; removed = 0; slice = replicate m 0 }
+clip_refused r m = record { refusal = number_of (Some r); triangles = 0; removed = 0; slice = replicate m 0 }
 
 -- accepted: the triangles, and zeros in the places after them, a broken last place too
 unfoldable pub clip_accepted : Clipping → ℕ → ClipOutcome
@@ -38,5 +39,6 @@ clip_outline v m =
     (clip_accepted (triangulate_polygon v) m)))
 
 -- what the code answers, with the triangle slice as it leaves it
-abbrev pub outcome_of : Clipped → List ℕ → ClipOutcome
-outcome_of r a = record { refusal = number_of r.refusal; triangles = r.triangles; removed = r.removed; slice = a }
+abbrev pub outcome_of : Result Cut Refusal → List ℕ → ClipOutcome
+outcome_of (Ok c) a = record { refusal = number_of Accepted; triangles = c.triangles; removed = c.removed; slice = a }
+outcome_of (Err r) a = record { refusal = number_of (Some r); triangles = 0; removed = 0; slice = a }

@@ -1,4 +1,5 @@
 -- Laws of the searches, in the form that the code's loops go by. Assumes nothing.
+use Rattle.std.proofs.Common.{Option, Some, None}
 use Prim.Native.Nat.{ℕ, zero, suc, ◌+◌, ◌-◌, ◌%◌, ◌<◌, ◌≤◌}
 use mathlib.Core.Path.{◌≡◌, refl, sym, ap, ◌∙◌}
 use mathlib.Core.Bool.{Bool, true, false, cond, not, ◌||◌}
@@ -8,8 +9,6 @@ use native.Mathlib.Nat.{mod-lt, mod_self, mod-eq_of_lt, add-mod_left, sub-zero}
 use native.Mathlib.Omega.{arith}
 use lib.ListN.{length, get_or, take, drop, drop_of_length-le}
 use lib.Seq.{drop-cons, get_or-take, length-take-le}
-use borrow.Author.Tests.{eq-eqb, ne_eqb}
-use lib.Dec.{eqb}
 use lib.Ieee.{Float, le}
 use Rattle.ieee.specs.Number.{absolute}
 use Rattle.outline.specs.declared.Point.{Point}
@@ -18,9 +17,11 @@ use Rattle.outline_triangle.specs.Triangle.{blocks}
 use Rattle.outline_triangle.specs.declared.Triangle.{Triangle}
 use Rattle.outline_ears.specs.Ears.{any, blocked, ip, inx, triangle_at, cross_at, is_ear, is_flat, counting, find, first_ear, first_flat}
 use Rattle.outline_ears.specs.Inside.{Inside}
-use Rattle.outline_ears.specs.Kinds.{kind_of, Kinds, is_flat_of, first_flat_of}
-use Rattle.outline_ears.specs.declared.Found.{Found}
-use Rattle.outline_ears.specs.declared.Found.TheVariants.{At, Nothing}
+use Rattle.outline_ears.specs.Kinds.{kind_of, Kinds, is_ear_kind, is_flat_kind, is_flat_of, first_flat_of}
+use Rattle.outline_ears.specs.declared.CornerKind.{CornerKind}
+use Rattle.outline_ears.specs.declared.CornerKind.TheVariants.{Ear, Flat, Neither}
+use Rattle.outline_ears.specs.contracts.CornerKind.{the_type}
+use denote.Enum.Bare.{sameb}
 use Rattle.outline_ears.proofs.Tests.{ear_by, flat_by, absolute_le}
 
 -- ---- the indices beside k, with no division
@@ -55,13 +56,13 @@ blocked_is v e t l = refl
 
 -- ---- the first index that passes, among those below m
 
-find_next : (p : ℕ → Bool) (m k : ℕ) → k < m → find p (counting k (m - k)) ≡ cond (p k) (At k) (find p (counting (k + 1) (m - (k + 1))))
+find_next : (p : ℕ → Bool) (m k : ℕ) → k < m → find p (counting k (m - k)) ≡ cond (p k) (Some k) (find p (counting (k + 1) (m - (k + 1))))
 unfolding find counting
 find_next p m k h =
     let e : m - k ≡ suc (m - (k + 1)) = omega arith in
     rw (e, add-one)
 
-pub find_end : (p : ℕ → Bool) (m k : ℕ) → m ≤ k → find p (counting k (m - k)) ≡ Nothing
+pub find_end : (p : ℕ → Bool) (m k : ℕ) → m ≤ k → find p (counting k (m - k)) ≡ None
 unfolding find counting
 find_end p m k h =
     let e : m - k ≡ 0 = omega arith in
@@ -69,18 +70,18 @@ find_end p m k h =
 
 -- index k passes, or it does not and the search goes on
 module _ (p : ℕ → Bool) (m k : ℕ) (h : k < m) where
-  pub find_here : p k ≡ true → find p (counting k (m - k)) ≡ At k
+  pub find_here : p k ≡ true → find p (counting k (m - k)) ≡ Some k
   find_here e = find_next p m k h ∙ rw e
 
   pub find_on : p k ≡ false → find p (counting (k + 1) (m - (k + 1))) ≡ find p (counting k (m - k))
   find_on e = sym (find_next p m k h ∙ rw e)
 
 -- an index that is found is one of those that were searched
-find_by : (d k j : ℕ) (t : Bool) (r : Found) → (r ≡ At j → j < suc k + d) → cond t (At k) r ≡ At j → j < k + suc d
+find_by : (d k j : ℕ) (t : Bool) (r : Option ℕ) → (r ≡ Some j → j < suc k + d) → cond t (Some k) r ≡ Some j → j < k + suc d
 find_by d k j true r h e = let z : k ≡ j = cc in omega arith
 find_by d k j false r h e = omega (arith, h e)
 
-pub find_below : (p : ℕ → Bool) (d k j : ℕ) → find p (counting k d) ≡ At j → j < k + d
+pub find_below : (p : ℕ → Bool) (d k j : ℕ) → find p (counting k d) ≡ Some j → j < k + d
 unfolding find counting
 find_below p zero k j e = let z : ◌≡◌ {A = ℕ} 0 1 = cc in omega arith
 find_below p (suc d) k j e = find_by d k j (p k) (find p (counting (suc k) d)) (λ q. find_below p d (suc k) j q) e
@@ -130,59 +131,71 @@ unfolding find counting
 find_same p q zero k h = refl
 find_same p q (suc d) k h = rw (h k (omega arith), find_same p q d (suc k) (λ j l. h j (omega arith)))
 
-pub first_flat_of_is : (kinds : List ℕ) (m : ℕ) → find (is_flat_of kinds) (counting 0 (m - 0)) ≡ first_flat_of kinds m
+pub first_flat_of_is : (kinds : List CornerKind) (m : ℕ) → find (is_flat_of kinds) (counting 0 (m - 0)) ≡ first_flat_of kinds m
 unfolding first_flat_of
 first_flat_of_is kinds m = rw sub-zero
 
-module _ (kinds : List ℕ) (k : ℕ) where
-  pub flat_here : get_or kinds k 0 ≡ 1 → is_flat_of kinds k ≡ true
-  unfolding is_flat_of
-  flat_here e = eq-eqb (get_or kinds k 0) 1 e
+-- the derived equality of kinds
+pub same_ear : (k : CornerKind) → sameb the_type k Ear ≡ is_ear_kind k
+unfolding is_ear_kind
+same_ear Ear = refl
+same_ear Flat = refl
+same_ear Neither = refl
 
-  pub flat_not : (get_or kinds k 0 ≡ 1 → ⊥) → is_flat_of kinds k ≡ false
+pub same_flat : (k : CornerKind) → sameb the_type k Flat ≡ is_flat_kind k
+unfolding is_flat_kind
+same_flat Ear = refl
+same_flat Flat = refl
+same_flat Neither = refl
+
+module _ (kinds : List CornerKind) (k : ℕ) where
+  pub flat_at : {t b : Bool} → t ≡ sameb the_type (get_or kinds k Ear) Flat → t ≡ b → is_flat_of kinds k ≡ b
   unfolding is_flat_of
-  flat_not e = ne_eqb (get_or kinds k 0) 1 e
+  flat_at e h = sym (same_flat (get_or kinds k Ear)) ∙ sym e ∙ h
+
+  pub ear_at : {t b : Bool} → t ≡ sameb the_type (get_or kinds k Ear) Ear → t ≡ b → is_ear_kind (get_or kinds k Ear) ≡ b
+  ear_at e h = sym (same_ear (get_or kinds k Ear)) ∙ sym e ∙ h
 
 -- a kind by its two tests
-pub kind_flat : (e x : Float) {y : Float} → y ≡ absolute x → le x e ≡ true → le y e ≡ true → 1 ≡ kind_of e x
+pub kind_flat : (e x : Float) {y : Float} → y ≡ absolute x → le x e ≡ true → le y e ≡ true → Flat ≡ kind_of e x
 unfolding kind_of
 kind_flat e x hy l f = rw (l, ← hy, f)
 
-pub kind_neither : (e x : Float) {y : Float} → y ≡ absolute x → le x e ≡ true → le y e ≡ false → 0 ≡ kind_of e x
+pub kind_neither : (e x : Float) {y : Float} → y ≡ absolute x → le x e ≡ true → le y e ≡ false → Neither ≡ kind_of e x
 unfolding kind_of
 kind_neither e x hy l f = rw (l, ← hy, f)
 
-pub kind_ear : (e x : Float) → le x e ≡ false → 2 ≡ kind_of e x
+pub kind_ear : (e x : Float) → le x e ≡ false → Ear ≡ kind_of e x
 unfolding kind_of
 kind_ear e x l = rw l
 
 -- and the two tests by a kind
-ear_kind : (e x : Float) → eqb (kind_of e x) 2 ≡ not (le x e)
+ear_kind : (e x : Float) → is_ear_kind (kind_of e x) ≡ not (le x e)
 unfolding kind_of
 ear_kind e x = ear_by (le x e) (le (absolute x) e)
 
-flat_kind : (e x : Float) → eqb (kind_of e x) 1 ≡ le (absolute x) e
+flat_kind : (e x : Float) → is_flat_kind (kind_of e x) ≡ le (absolute x) e
 unfolding kind_of
 flat_kind e x = flat_by (le x e) (le (absolute x) e) (absolute_le x e)
 
-module _ (v : List Float) (e : Float) (idx kinds : List ℕ) (n : ℕ) (s : Inside v idx n) (x : Kinds v e idx kinds n) where
+module _ (v : List Float) (e : Float) (idx : List ℕ) (kinds : List CornerKind) (n : ℕ) (s : Inside v idx n) (x : Kinds v e idx kinds n) where
   pub first_flat_by : first_flat_of kinds n ≡ first_flat v e (take n idx)
   unfolding first_flat_of first_flat is_flat_of is_flat
   first_flat_by =
       rw (idx_length v idx n s)
       (find_same (is_flat_of kinds) (is_flat v e (take n idx)) n 0
-      (λ k h. ap (λ (y : ℕ). eqb y 1) (x.there k (omega arith)) ∙ flat_kind e (cross_at v (take n idx) k)))
+      (λ k h. ap is_flat_kind (x.there k (omega arith)) ∙ flat_kind e (cross_at v (take n idx) k)))
 
   -- the corner at index k, by the kind that is held there
   module _ (k : ℕ) (h : k < n) where
-    held : eqb (get_or kinds k 0) 2 ≡ not (le (cross_at v (take n idx) k) e)
-    held = ap (λ (y : ℕ). eqb y 2) (x.there k h) ∙ ear_kind e (cross_at v (take n idx) k)
+    held : is_ear_kind (get_or kinds k Ear) ≡ not (le (cross_at v (take n idx) k) e)
+    held = ap is_ear_kind (x.there k h) ∙ ear_kind e (cross_at v (take n idx) k)
 
-    pub is_ear_not : (get_or kinds k 0 ≡ 2 → ⊥) → false ≡ is_ear v e (take n idx) k
+    pub is_ear_not : is_ear_kind (get_or kinds k Ear) ≡ false → false ≡ is_ear v e (take n idx) k
     unfolding is_ear
-    is_ear_not l = rw (← held, ne_eqb (get_or kinds k 0) 2 l)
+    is_ear_not l = rw (← held, l)
 
-    pub is_ear_is : {t : Triangle} {b : Bool} → get_or kinds k 0 ≡ 2 → t ≡ triangle_at v (take n idx) k → b ≡ blocked v e t (take n idx)
+    pub is_ear_is : {t : Triangle} {b : Bool} → is_ear_kind (get_or kinds k Ear) ≡ true → t ≡ triangle_at v (take n idx) k → b ≡ blocked v e t (take n idx)
         → not b ≡ is_ear v e (take n idx) k
     unfolding is_ear
-    is_ear_is l ht hb = rw (hb, ← held, eq-eqb (get_or kinds k 0) 2 l, ht)
+    is_ear_is l ht hb = rw (hb, ← held, l, ht)

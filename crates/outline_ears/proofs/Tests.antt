@@ -3,19 +3,23 @@ use Prim.Native.Nat.{ℕ, zero, suc, ◌+◌, ◌*◌}
 use mathlib.Core.Path.{◌≡◌, refl}
 use mathlib.Core.Bool.{Bool, true, false, cond, not, ◌||◌, false≢true}
 use native.Mathlib.Omega.{arith}
-use lib.Dec.{T, ltb, eqb, lt→ltb}
+use lib.Dec.{T, ltb, lt→ltb}
 use lib.Ieee.{Float, nan, inf, fin, up, down, below, level, lt, eq, le, is_nan}
 use Rattle.ieee.specs.Number.{absolute}
+use Rattle.outline_ears.specs.declared.CornerKind.TheVariants.{Ear, Flat, Neither}
+use Rattle.outline_ears.specs.Kinds.{is_ear_kind, is_flat_kind}
 use Rattle.ieee.specs.Same.{or_l, T_true, true_T}
 use Rattle.ieee.specs.Total.{le_refl}
 use Rattle.ieee.specs.Order.{le_trans}
 
-pub ear_by : (a b : Bool) → eqb (cond a (cond b 1 0) 2) 2 ≡ not a
+pub ear_by : (a b : Bool) → is_ear_kind (cond a (cond b Flat Neither) Ear) ≡ not a
+unfolding is_ear_kind
 ear_by true true = refl
 ear_by true false = refl
 ear_by false b = refl
 
-pub flat_by : (a b : Bool) → (b ≡ true → a ≡ true) → eqb (cond a (cond b 1 0) 2) 1 ≡ b
+pub flat_by : (a b : Bool) → (b ≡ true → a ≡ true) → is_flat_kind (cond a (cond b Flat Neither) Ear) ≡ b
+unfolding is_flat_kind
 flat_by true true h = refl
 flat_by true false h = refl
 flat_by false true h = absurd (false≢true (h refl))

@@ -1,13 +1,11 @@
 -- The searches of `triangulate_polygon` in src/tessellate.rs: the first unblocked ear, the first flat corner.
 -- v is the corner list, two floats to a corner; idx is the Rust's idx, the numbers of the corners that remain, in order; k is an index of idx. Assumes nothing.
-use Rattle.std.specs.Prelude.{ℕ, zero, suc, ◌+◌, ◌-◌, ◌%◌, Bool, false, cond, not, ◌&&◌, ◌||◌, List, [], ◌∷◌, length, get_or, Float}
+use Rattle.std.specs.Prelude.{ℕ, zero, suc, ◌+◌, ◌-◌, ◌%◌, Bool, false, cond, not, ◌&&◌, ◌||◌, List, [], ◌∷◌, length, get_or, Option, Some, None, Float}
 use Rattle.std.specs.Float.Ieee.{le}
 use Rattle.ieee.specs.Number.{absolute}
 use Rattle.outline.specs.Corners.{point}
 use Rattle.outline_triangle.specs.declared.Triangle.{Triangle}
 use Rattle.outline_triangle.specs.Triangle.{cross, blocks}
-use Rattle.outline_ears.specs.declared.Found.{Found}
-use Rattle.outline_ears.specs.declared.Found.TheVariants.{At, Nothing}
 
 -- the Rust's `any`: some number of the list passes the test
 unfoldable pub any : (ℕ → Bool) → List ℕ → Bool
@@ -56,16 +54,16 @@ unfoldable pub is_flat : List Float → Float → List ℕ → ℕ → Bool
 is_flat v eps idx k = le (absolute (cross_at v idx k)) eps
 
 -- the Rust's `find`: the first number of the list that passes the test
-unfoldable pub find : (ℕ → Bool) → List ℕ → Found
-find p [] = Nothing
-find p (k ∷ l) = cond (p k) (At k) (find p l)
+unfoldable pub find : (ℕ → Bool) → List ℕ → Option ℕ
+find p [] = None
+find p (k ∷ l) = cond (p k) (Some k) (find p l)
 
 -- the Rust's loop `for k in 0..m`: the first unblocked ear
-unfoldable pub first_ear : List Float → Float → List ℕ → Found
+unfoldable pub first_ear : List Float → Float → List ℕ → Option ℕ
 unfolding find counting
 first_ear v eps idx = find (is_ear v eps idx) (counting 0 (length idx))
 
 -- the Rust's `(0..m).find(..)`: the first flat corner
-unfoldable pub first_flat : List Float → Float → List ℕ → Found
+unfoldable pub first_flat : List Float → Float → List ℕ → Option ℕ
 unfolding find counting
 first_flat v eps idx = find (is_flat v eps idx) (counting 0 (length idx))

@@ -1,56 +1,52 @@
-// The searches of the ear clipper (src/tessellate.rs, triangulate_polygon). v is the corner list, two floats to a corner. The Rust's idx, the numbers of the
-// corners that remain, is the first m numbers of the array idx. The first m of kinds say what the Rust's cross makes of the corner
-// at each index, which the searches read.
+// The searches of the ear clipper (src/tessellate.rs, triangulate_polygon) over the corners that remain. v is the corner list, two floats to a corner.
 #![tactic(auto)]
 
-ghost use Rattle.std.specs.Prelude.{◌≡◌, ◌+◌, ◌-◌, ◌%◌, ◌<◌, ◌≤◌, length, take};
+ghost use Rattle.std.specs.Prelude.{◌≡◌, ◌+◌, ◌-◌, ◌%◌, ◌<◌, ◌≤◌};
 ghost use Rattle.outline_ears.specs.Ears.{blocked as blocked·, triangle_at, is_ear, first_ear};
-ghost use Rattle.outline_ears.specs.Inside.{Inside};
+ghost use Rattle.outline_ears.specs.Inside.{Inside, idx_of};
 ghost use Rattle.outline_ears.specs.Kinds.{kind_of, Kinds, first_flat_of};
 
 use outline_triangle::Triangle;
 
-// What a search finds: an index of idx.
-#[derive(Clone, Copy)]
-pub enum Found {
-    At(usize),
-    Nothing,
+// What the Rust's cross makes of a corner: an ear, blocked or not; a flat corner; or neither.
+#[derive(Clone, Copy, PartialEq, Eq)]
+pub enum CornerKind {
+    Ear,
+    Flat,
+    Neither,
 }
 
-// The kind of an ear, blocked or not.
-const EAR: u8 = 2;
-
-// The kind of a flat corner.
-const FLAT: u8 = 1;
-
-// The kind of any other corner.
-const NEITHER: u8 = 0;
+// The corners that remain: the Rust's idx is the first m numbers of the array idx, and the first m of kinds are the kinds of the corners there, which the
+// searches read. Arrays with a count, as there is no heap.
+#[derive(Clone, Copy)]
+pub struct Remaining {
+    pub idx: [u32; 512],
+    pub kinds: [CornerKind; 512],
+    pub m: usize,
+}
 
 // The kind of a corner by its cross. A NaN is not <= eps, so it counts as an ear's.
-pub fn kind_of(eps: f64, cross: f64) -> u8
+pub fn kind_of(eps: f64, cross: f64) -> CornerKind
     ensures { result ≡ kind_of eps cross }
 {
     if cross <= eps {
         if ieee::abs(cross) <= eps {
-            return FLAT;
+            return CornerKind::Flat;
         }
-        return NEITHER;
+        return CornerKind::Neither;
     }
-    EAR
+    CornerKind::Ear
 }
 
 // The Rust's blocked: whether some corner that remains keeps t from being clipped.
-fn blocked(v: &[f64], eps: f64, t: Triangle, idx: &[u32; 512], m: usize) -> bool
-    requires { Inside v.now idx.now m }
-    ensures { result ≡ blocked· v.now eps t (take m idx.now) }
+fn blocked(v: &[f64], eps: f64, t: Triangle, left: &Remaining) -> bool
+    requires { Inside v.now left.now.idx left.now.m }
+    ensures { result ≡ blocked· v.now eps t (idx_of left.now) }
 {
-    let mut q = 0;
-    while q < m {
-        let o = idx[q];
-        if outline_triangle::blocks(v, eps, t, o) {
+    for q in 0..left.m {
+        if outline_triangle::blocks(v, eps, t, left.idx[q]) {
             return true;
         }
-        q += 1;
     }
     false
 }
@@ -78,17 +74,17 @@ pub fn next(k: usize, m: usize) -> usize
 }
 
 // The corner at index k of idx and its neighbours there.
-pub fn triangle_at(v: &[f64], idx: &[u32; 512], m: usize, k: usize) -> Triangle
-    requires { (k < m) × Inside v.now idx.now m }
-    ensures { result ≡ triangle_at v.now (take m idx.now) k }
+pub fn triangle_at(v: &[f64], left: &Remaining, k: usize) -> Triangle
+    requires { (k < left.now.m) × Inside v.now left.now.idx left.now.m }
+    ensures { result ≡ triangle_at v.now (idx_of left.now) k }
 {
-    let ip = idx[previous(k, m)];
-    let ic = idx[k];
-    let inx = idx[next(k, m)];
+    let ip = left.idx[previous(k, left.m)];
+    let ic = left.idx[k];
+    let inx = left.idx[next(k, left.m)];
     Triangle {
-        ip: ip,
-        ic: ic,
-        inx: inx,
+        ip,
+        ic,
+        inx,
         a: outline_triangle::point_of(v, ip),
         b: outline_triangle::point_of(v, ic),
         c: outline_triangle::point_of(v, inx),
@@ -96,43 +92,36 @@ pub fn triangle_at(v: &[f64], idx: &[u32; 512], m: usize, k: usize) -> Triangle
 }
 
 // The first index whose corner is an ear that no other corner blocks.
-pub fn first_ear(v: &[f64], eps: f64, idx: &[u32; 512], kinds: &[u8; 512], m: usize) -> Found
-    requires { Inside v.now idx.now m × Kinds v.now eps idx.now kinds.now m }
-    ensures { result ≡ first_ear v.now eps (take m idx.now) }
+// A loop of three lines, as in first_flat and blocked: find with a closure would need its clause to say what is tested.
+pub fn first_ear(v: &[f64], eps: f64, left: &Remaining) -> Option<usize>
+    requires { Inside v.now left.now.idx left.now.m × Kinds v.now eps left.now.idx left.now.kinds left.now.m }
+    ensures { result ≡ first_ear v.now eps (idx_of left.now) }
 {
-    let mut k = 0;
-    while k < m {
-        if is_ear(v, eps, idx, kinds, m, k) {
-            return Found::At(k);
+    for k in 0..left.m {
+        if is_ear(v, eps, left, k) {
+            return Some(k);
         }
-        k += 1;
     }
-    Found::Nothing
+    None
 }
 
 // Whether the corner at index k is an ear that no other corner blocks.
-fn is_ear(v: &[f64], eps: f64, idx: &[u32; 512], kinds: &[u8; 512], m: usize, k: usize) -> bool
-    requires { (k < m) × Inside v.now idx.now m × Kinds v.now eps idx.now kinds.now m }
-    ensures { result ≡ is_ear v.now eps (take m idx.now) k }
+fn is_ear(v: &[f64], eps: f64, left: &Remaining, k: usize) -> bool
+    requires { (k < left.now.m) × Inside v.now left.now.idx left.now.m × Kinds v.now eps left.now.idx left.now.kinds left.now.m }
+    ensures { result ≡ is_ear v.now eps (idx_of left.now) k }
 {
-    if kinds[k] != EAR {
-        return false;
-    }
-    let t = triangle_at(v, idx, m, k);
-    !blocked(v, eps, t, idx, m)
+    left.kinds[k] == CornerKind::Ear && !blocked(v, eps, triangle_at(v, left, k), left)
 }
 
 // The first index whose corner is flat.
-pub fn first_flat(kinds: &[u8; 512], m: usize) -> Found
-    requires { (m ≤ 512) × (length kinds.now ≡ 512) }
-    ensures { result ≡ first_flat_of kinds.now m }
+pub fn first_flat(left: &Remaining) -> Option<usize>
+    requires { left.now.m ≤ 512 }
+    ensures { result ≡ first_flat_of left.now.kinds left.now.m }
 {
-    let mut j = 0;
-    while j < m {
-        if kinds[j] == FLAT {
-            return Found::At(j);
+    for j in 0..left.m {
+        if left.kinds[j] == CornerKind::Flat {
+            return Some(j);
         }
-        j += 1;
     }
-    Found::Nothing
+    None
 }

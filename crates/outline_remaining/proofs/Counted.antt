@@ -9,9 +9,8 @@ use lib.ListN.{length, get_or, take, set}
 use lib.Seq.{take-suc-set, get_or-take}
 use lib.Ieee.{Float}
 use Rattle.outline_ears.specs.Ears.{counting}
-use Rattle.outline_ears.specs.Inside.{Inside}
-use Rattle.outline_remaining.specs.Removed.{idx_of}
-use Rattle.outline_remaining.specs.declared.Remaining.{Remaining}
+use Rattle.outline_ears.specs.Inside.{Inside, idx_of}
+use Rattle.outline_ears.specs.declared.Remaining.{Remaining}
 
 counting_snoc : (k i : ℕ) → counting k (suc i) ≡ counting k i ++ ((k + i) ∷ [])
 unfolding counting

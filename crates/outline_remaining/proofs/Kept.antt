@@ -16,7 +16,10 @@ use Rattle.outline_ears.specs.Inside.{Inside}
 use Rattle.outline_ears.specs.Kinds.{kind_of, kind_at, Kinds}
 use Rattle.outline_ears.proofs.Laws.{previous_of_first, previous_of_later, next_of_last, next_of_earlier, idx_length, idx_at}
 use Rattle.outline_remaining.specs.Without.{without, TakenOut}
-use Rattle.outline_remaining.specs.Removed.{before, after, anew, Removed}
+use Rattle.outline_ears.specs.declared.CornerKind.{CornerKind}
+use Rattle.outline_ears.specs.declared.CornerKind.TheVariants.{Ear}
+use Rattle.outline_ears.specs.declared.Remaining.{Remaining}
+use Rattle.outline_remaining.specs.Removed.{before, after, anew, SameCorners, Removed}
 use Rattle.outline_remaining.proofs.Taken.{length_without, getD_without_low, getD_without}
 
 -- ---- the corners beside the one at index j, with no division
@@ -43,7 +46,7 @@ module _ (l : List ℕ) (j : ℕ) where
   cross_by v l' i a b c = λ t. cross (point v (a t)) (point v (b t)) (point v (c t))
 
 -- the kind of t, the corner at index k with its neighbours
-pub kind_is : (v : List Float) (e : Float) (l : List ℕ) (k : ℕ) {t : Triangle} {x : Float} {y : ℕ} → t ≡ triangle_at v l k → x ≡ cross t.a t.b t.c → y ≡ kind_of e x
+pub kind_is : (v : List Float) (e : Float) (l : List ℕ) (k : ℕ) {t : Triangle} {x : Float} {y : CornerKind} → t ≡ triangle_at v l k → x ≡ cross t.a t.b t.c → y ≡ kind_of e x
     → y ≡ kind_at v e l k
 unfolding cross_at
 kind_is v e l k ht hx hy = hy ∙ ap (kind_of e) (hx ∙ ap (λ (t : Triangle). cross t.a t.b t.c) ht)
@@ -129,7 +132,7 @@ before_next k n h hn (no o) =
     ap (λ (x : ℕ). x % n) (before_first k n hn z) ∙ mod_self n ∙ sym (zero-mod n) ∙ ap (λ (x : ℕ). x % n) (sym z)
 
 module _ (v : List Float) (e : Float) (l : List ℕ) (n k : ℕ) (hl : length l ≡ n) (h : k ≤ n) (hn : 0 < n) where
-  pub anew_is : {p q x y : ℕ} (b : List ℕ) → p ≡ (k + n - 1) % n → q ≡ (p + 1) % n → x ≡ kind_at v e l p → y ≡ kind_at v e l q → set (set b p x) q y ≡ anew v e l k b
+  pub anew_is : {p q : ℕ} {x y : CornerKind} (b : List CornerKind) → p ≡ (k + n - 1) % n → q ≡ (p + 1) % n → x ≡ kind_at v e l p → y ≡ kind_at v e l q → set (set b p x) q y ≡ anew v e l k b
   unfolding anew before
   anew_is {p} {q} {x} {y} b hp hq hx hy =
       let ep : p ≡ before k (length l) = hp ∙ ap (before k) (sym hl) in
@@ -141,33 +144,33 @@ module _ (v : List Float) (e : Float) (l : List ℕ) (n k : ℕ) (hl : length l 
 -- ---- the array of kinds
 
 -- what the loop that fills it keeps: those below k are there
-pub record Filling (v : List Float) (e : Float) (l : List ℕ) (k : ℕ) (kinds : List ℕ) : Type 0 where
+pub record Filling (v : List Float) (e : Float) (l : List ℕ) (k : ℕ) (kinds : List CornerKind) : Type 0 where
   pub long : length kinds ≡ 512
-  pub done : (j : ℕ) → j < k → get_or kinds j 0 ≡ kind_at v e l j
+  pub done : (j : ℕ) → j < k → get_or kinds j Ear ≡ kind_at v e l j
 
-module _ (v : List Float) (e : Float) (l : List ℕ) (k : ℕ) (kinds : List ℕ) (h : k < 512) (p : Filling v e l k kinds) {x : ℕ} (hx : x ≡ kind_at v e l k) where
-  filled_at : (j : ℕ) → j < k + 1 → Dec (j ≡ k) → get_or (set kinds k x) j 0 ≡ kind_at v e l j
-  filled_at j hj (yes z) = ap (λ (i : ℕ). get_or (set kinds k x) i 0) z ∙ get_or-set_same kinds k x 0 (omega (arith, p.long)) ∙ hx ∙ ap (kind_at v e l) (sym z)
-  filled_at j hj (no z) = get_or-set_other kinds k j x 0 z ∙ p.done j (omega (arith, z))
+module _ (v : List Float) (e : Float) (l : List ℕ) (k : ℕ) (kinds : List CornerKind) (h : k < 512) (p : Filling v e l k kinds) {x : CornerKind} (hx : x ≡ kind_at v e l k) where
+  filled_at : (j : ℕ) → j < k + 1 → Dec (j ≡ k) → get_or (set kinds k x) j Ear ≡ kind_at v e l j
+  filled_at j hj (yes z) = ap (λ (i : ℕ). get_or (set kinds k x) i Ear) z ∙ get_or-set_same kinds k x Ear (omega (arith, p.long)) ∙ hx ∙ ap (kind_at v e l) (sym z)
+  filled_at j hj (no z) = get_or-set_other kinds k j x Ear z ∙ p.done j (omega (arith, z))
 
   pub filling_next : Filling v e l (k + 1) (set kinds k x)
   filling_next = record { long = length-set kinds k x ∙ p.long; done = λ j hj. filled_at j hj (ℕ_discrete j k) }
 
 -- an array in which the values of f were put at the indices p and q
-module _ (f : ℕ → ℕ) (l : List ℕ) (p q j : ℕ) (hj : j < length l) where
-  set_second : j ≡ q → get_or (set (set l p (f p)) q (f q)) j 0 ≡ f j
+module _ (f : ℕ → CornerKind) (l : List CornerKind) (p q j : ℕ) (hj : j < length l) where
+  set_second : j ≡ q → get_or (set (set l p (f p)) q (f q)) j Ear ≡ f j
   set_second e =
       let n : length (set l p (f p)) ≡ length l = length-set l p (f p) in
-      ap (λ (i : ℕ). get_or (set (set l p (f p)) q (f q)) i 0) e ∙ get_or-set_same (set l p (f p)) q (f q) 0 (omega arith) ∙ ap f (sym e)
+      ap (λ (i : ℕ). get_or (set (set l p (f p)) q (f q)) i Ear) e ∙ get_or-set_same (set l p (f p)) q (f q) Ear (omega arith) ∙ ap f (sym e)
 
   module _ (nq : j ≡ q → ⊥) where
-    set_first : j ≡ p → get_or (set (set l p (f p)) q (f q)) j 0 ≡ f j
+    set_first : j ≡ p → get_or (set (set l p (f p)) q (f q)) j Ear ≡ f j
     set_first e =
-        get_or-set_other (set l p (f p)) q j (f q) 0 nq
-        ∙ ap (λ (i : ℕ). get_or (set l p (f p)) i 0) e ∙ get_or-set_same l p (f p) 0 (omega arith) ∙ ap f (sym e)
+        get_or-set_other (set l p (f p)) q j (f q) Ear nq
+        ∙ ap (λ (i : ℕ). get_or (set l p (f p)) i Ear) e ∙ get_or-set_same l p (f p) Ear (omega arith) ∙ ap f (sym e)
 
-    set_neither : (j ≡ p → ⊥) → get_or (set (set l p (f p)) q (f q)) j 0 ≡ get_or l j 0
-    set_neither np = get_or-set_other (set l p (f p)) q j (f q) 0 nq ∙ get_or-set_other l p j (f p) 0 np
+    set_neither : (j ≡ p → ⊥) → get_or (set (set l p (f p)) q (f q)) j Ear ≡ get_or l j Ear
+    set_neither np = get_or-set_other (set l p (f p)) q j (f q) Ear nq ∙ get_or-set_other l p j (f p) Ear np
 
 -- ---- the corner at index k goes: b and b' are the arrays before, a and a' after what stands behind it has moved down
 
@@ -191,7 +194,7 @@ module _ (v : List Float) (m k : ℕ) (b a : List ℕ) (hk : k < m) (s : Inside 
   pub removed_inside : Inside v a (m - 1)
   removed_inside = record { long = t.long; small = omega (arith, s.small); there = λ i hi. inside_by i hi (dec_lt i k) }
 
-module _ (v : List Float) (e : Float) (m k : ℕ) (b a b' a' : List ℕ) (h1 : 1 < m) (hk : k < m) (s : Inside v b m) (x : Kinds v e b b' m) (t : TakenOut k m b a)
+module _ (v : List Float) (e : Float) (m k : ℕ) (b a : List ℕ) (b' a' : List CornerKind) (h1 : 1 < m) (hk : k < m) (s : Inside v b m) (x : Kinds v e b b' m) (t : TakenOut k m b a)
     (t' : TakenOut k m b' a') where
   low : length (take m b) ≡ m
   low = idx_length v b m s
@@ -203,15 +206,15 @@ module _ (v : List Float) (e : Float) (m k : ℕ) (b a b' a' : List ℕ) (h1 : 1
   left = length-take-le (m - 1) a (omega (arith, t.long, s.small))
 
   -- a kind beside neither is that of the same corner before
-  moved_at : (j : ℕ) → j < m - 1 → get_or a' j 0 ≡ get_or (without k (take m b')) j 0
-  moved_at j hj = sym (get_or-take (m - 1) a' j 0 hj) ∙ ap (λ (r : List ℕ). get_or r j 0) t'.list
+  moved_at : (j : ℕ) → j < m - 1 → get_or a' j Ear ≡ get_or (without k (take m b')) j Ear
+  moved_at j hj = sym (get_or-take (m - 1) a' j Ear hj) ∙ ap (λ (r : List CornerKind). get_or r j Ear) t'.list
 
-  kept_by : (j : ℕ) → j < m - 1 → (j ≡ before k (m - 1) → ⊥) → (j ≡ after k (m - 1) → ⊥) → Dec (j < k) → get_or a' j 0 ≡ kind_at v e (take (m - 1) a) j
+  kept_by : (j : ℕ) → j < m - 1 → (j ≡ before k (m - 1) → ⊥) → (j ≡ after k (m - 1) → ⊥) → Dec (j < k) → get_or a' j Ear ≡ kind_at v e (take (m - 1) a) j
   kept_by j hj np nq (yes p) =
       let w = before_later k (m - 1) (omega arith) (omega arith) in
       moved_at j hj
-      ∙ getD_without_low k (take m b') j 0 p (omega (arith, low'))
-      ∙ get_or-take m b' j 0 (omega arith)
+      ∙ getD_without_low k (take m b') j Ear p (omega (arith, low'))
+      ∙ get_or-take m b' j Ear (omega arith)
       ∙ x.there j (omega arith)
       ∙ ap (kind_of e) (sym (cross_low v (take m b) k j (omega (arith, low)) (omega (arith, low)) p (λ q. np (omega arith))
       (λ q z. nq (z ∙ sym (after_last k (m - 1) (omega (arith, low)))))))
@@ -219,15 +222,15 @@ module _ (v : List Float) (e : Float) (m k : ℕ) (b a b' a' : List ℕ) (h1 : 1
   kept_by j hj np nq (no p) =
       let q : k ≤ j = omega (arith, p) in
       moved_at j hj
-      ∙ getD_without k (take m b') j 0 q (omega (arith, low'))
-      ∙ get_or-take m b' (j + 1) 0 (omega arith)
+      ∙ getD_without k (take m b') j Ear q (omega (arith, low'))
+      ∙ get_or-take m b' (j + 1) Ear (omega arith)
       ∙ x.there (j + 1) (omega arith)
       ∙ ap (kind_of e) (sym (cross_high v (take m b) k j (omega (arith, low)) (omega (arith, low)) q (λ w. nq (w ∙ sym (after_earlier k (m - 1) (omega arith))))
       (λ z w. np (omega (arith, low, before_first k (m - 1) (omega arith) z)))))
       ∙ ap (λ (l : List ℕ). kind_at v e l j) (sym t.list)
 
   there_by : (j : ℕ) → j < m - 1 → Dec (j ≡ before k (length (take (m - 1) a))) → Dec (j ≡ after k (length (take (m - 1) a)))
-      → get_or (anew v e (take (m - 1) a) k a') j 0 ≡ kind_at v e (take (m - 1) a) j
+      → get_or (anew v e (take (m - 1) a) k a') j Ear ≡ kind_at v e (take (m - 1) a) j
   unfolding anew
   there_by j hj u (yes w) = set_second (kind_at v e (take (m - 1) a)) a' _ _ j (omega (arith, t'.long, s.small)) w
   there_by j hj (yes u) (no w) = set_first (kind_at v e (take (m - 1) a)) a' _ _ j (omega (arith, t'.long, s.small)) w u
@@ -239,15 +242,22 @@ module _ (v : List Float) (e : Float) (m k : ℕ) (b a b' a' : List ℕ) (h1 : 1
   unfolding anew
   anew_long = simp length-set t'.long
 
-  pub removed_is : {c' : List ℕ} → c' ≡ anew v e (take (m - 1) a) k a' → Removed v e m k b a c'
-  removed_is hc =
+  kinds_kept : {c' : List CornerKind} → c' ≡ anew v e (take (m - 1) a) k a' → Kinds v e a c' (m - 1)
+  kinds_kept hc =
       record {
-        list = t.list;
-        inside = removed_inside v m k b a hk s t;
-        kept =
-            record {
-              long = ap length hc ∙ anew_long;
-              there = λ j hj. ap (λ (l : List ℕ). get_or l j 0) hc
-                  ∙ there_by j hj (ℕ_discrete j (before k (length (take (m - 1) a)))) (ℕ_discrete j (after k (length (take (m - 1) a))));
-            };
+        long = ap length hc ∙ anew_long;
+        there = λ j hj. ap (λ (l : List CornerKind). get_or l j Ear) hc
+            ∙ there_by j hj (ℕ_discrete j (before k (length (take (m - 1) a)))) (ℕ_discrete j (after k (length (take (m - 1) a))));
+      }
+
+-- w remained before, i and x are its arrays after what stands behind index k has moved down
+module _ (v : List Float) (e : Float) (k : ℕ) (w : Remaining) (i : List ℕ) (x : List CornerKind) (h1 : 1 < w.m) (hk : k < w.m) (s : Inside v w.idx w.m)
+    (p : Kinds v e w.idx w.kinds w.m) (t : TakenOut k w.m w.idx i) (t' : TakenOut k w.m w.kinds x) where
+  pub removed_is : (w' : Remaining) → SameCorners (record { idx = i; kinds = x; m = w.m - 1 }) w' → w'.kinds ≡ anew v e (take (w.m - 1) i) k x → Removed v e k w w'
+  removed_is w' q hc =
+      record {
+        list = (λ j. take (q.count j) (q.numbers j)) ∙ t.list;
+        count = q.count;
+        inside = rw (q.numbers, q.count) (removed_inside v w.m k w.idx i hk s t);
+        kept = rw (q.numbers, q.count) (kinds_kept v e w.m k w.idx i w.kinds x h1 hk s p t t' hc);
       }

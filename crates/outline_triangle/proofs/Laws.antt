@@ -2,8 +2,8 @@
 use Prim.Native.Nat.{ℕ, ◌+◌, ◌<◌, ◌≤◌}
 use mathlib.Core.Path.{◌≡◌, refl, sym, ap, ◌∙◌}
 use mathlib.Core.Bool.{Bool, true, false, not, ◌&&◌, ◌||◌, and-true, and-false, and_comm}
-use mathlib.Core.List.{List}
-use native.Mathlib.Numerals.{add-one}
+use mathlib.Core.List.{List, [], ◌∷◌}
+use Rattle.std.proofs.Common.{fold}
 use lib.ListN.{length, get_or, drop, drop_of_length-le}
 use lib.Seq.{drop-cons}
 use lib.Dec.{eqb}
@@ -17,13 +17,10 @@ use Rattle.outline_triangle.specs.declared.Triangle.{Triangle}
 
 -- ---- the largest absolute value of a coordinate
 
-pub largest_next : (m : Float) (v : List Float) (i : ℕ) → i < length v → largest m (drop i v) ≡ largest (maximum m (absolute (get_or v i nan))) (drop (i + 1) v)
+pub largest_is : (m : Float) (v : List Float) → largest m v ≡ fold (λ m x. maximum m (absolute x)) m v
 unfolding largest
-largest_next m v i h = rw (add-one, drop-cons v i nan)
-
-pub largest_end : (m : Float) (v : List Float) (i : ℕ) → length v ≤ i → largest m (drop i v) ≡ m
-unfolding largest
-largest_end m v i h = rw (drop_of_length-le v {i = i} h)
+largest_is m [] = refl
+largest_is m (x ∷ v) = largest_is (maximum m (absolute x)) v
 
 -- ---- the test on a triangle, by what the code has found
 
@@ -44,51 +41,29 @@ module _ (e : Float) (a b c p : Point) {y z : Float} (ez : z ≡ cross c a p) (e
   pub in_triangle_beyond : (le (neg e) z && le (neg e) y) ≡ false → false ≡ in_triangle e a b c p
   in_triangle_beyond h = sym (and-false (le (neg e) (cross a b p))) ∙ in_triangle_by h refl
 
--- ---- a test of a corner, which the code has read as p
+-- ---- whether a corner blocks an ear, by the code's three tests
 
-module _ (v : List Float) (o : ℕ) {p : Point} (hp : p ≡ point v o) {r u : Bool} where
-  pub in_triangle_at : (e : Float) (a b c : Point) → r ≡ in_triangle e a b c p → r ≡ u → in_triangle e a b c (point v o) ≡ u
-  in_triangle_at e a b c hr hu = ap (in_triangle e a b c) (sym hp) ∙ (sym hr ∙ hu)
+blocks_order : (a b c : Bool) → (a && (not b && not c)) ≡ (not b && (not c && a))
+blocks_order a true c = and-false a
+blocks_order true false c = sym (and-true (not c))
+blocks_order false false c = sym (and-false (not c))
 
-  pub same_at : (a : Point) → r ≡ same p a → r ≡ u → same (point v o) a ≡ u
-  same_at a hr hu = ap (λ (q : Point). same q a) (sym hp) ∙ (sym hr ∙ hu)
-
--- ---- a corner that blocks an ear
-
-module _ (v : List Float) (e : Float) (t : Triangle) (o : ℕ) where
-  pub blocks_outside : in_triangle e t.a t.b t.c (point v o) ≡ false → false ≡ blocks v e t o
+module _ (v : List Float) (e : Float) (t : Triangle) (o : ℕ) {p : Point} (hp : p ≡ point v o) where
+  pub blocks_by : {a b c : Bool} → a ≡ in_triangle e t.a t.b t.c p → b ≡ (eqb o t.ip || (eqb o t.ic || eqb o t.inx))
+      → c ≡ (same p t.a || (same p t.b || same p t.c)) → (a && (not b && not c)) ≡ blocks v e t o
   unfolding blocks
-  blocks_outside h =
-      rw h
-      (none_of (not (eqb o t.ip || (eqb o t.ic || eqb o t.inx))) (not (same (point v o) t.a || (same (point v o) t.b || same (point v o) t.c))))
+  blocks_by {a} {b} {c} ha hb hc = blocks_order a b c ∙ rw (ha, hb, hc, hp)
 
-  pub blocks_ip : o ≡ t.ip → false ≡ blocks v e t o
+  pub blocks_outside : {a : Bool} → a ≡ in_triangle e t.a t.b t.c p → a ≡ false → false ≡ blocks v e t o
   unfolding blocks
-  blocks_ip h = rw (eq-eqb o t.ip h)
+  blocks_outside {a} ha h = blocks_by {b = eqb o t.ip || (eqb o t.ic || eqb o t.inx)} {c = same p t.a || (same p t.b || same p t.c)} (sym h ∙ ha) refl refl
 
-  pub blocks_ic : (o ≡ t.ip → ⊥) → o ≡ t.ic → false ≡ blocks v e t o
+  pub blocks_named : {a b : Bool} → a ≡ in_triangle e t.a t.b t.c p → b ≡ (eqb o t.ip || (eqb o t.ic || eqb o t.inx)) → not b ≡ false → false ≡ blocks v e t o
   unfolding blocks
-  blocks_ic ni h = rw (ne_eqb o t.ip ni, eq-eqb o t.ic h)
+  blocks_named {a} {b} ha hb h =
+      let c = same p t.a || (same p t.b || same p t.c) in
+      sym (ap (λ (x : Bool). a && (x && not c)) h ∙ and-false a) ∙ blocks_by {c = c} ha hb refl
 
-  module _ (ni : o ≡ t.ip → ⊥) (nj : o ≡ t.ic → ⊥) where
-    pub blocks_inx : o ≡ t.inx → false ≡ blocks v e t o
-    unfolding blocks
-    blocks_inx h = rw (ne_eqb o t.ip ni, ne_eqb o t.ic nj, eq-eqb o t.inx h)
-
-    module _ (nk : o ≡ t.inx → ⊥) where
-      pub blocks_a : same (point v o) t.a ≡ true → false ≡ blocks v e t o
-      unfolding blocks
-      blocks_a h = rw (ne_eqb o t.ip ni, ne_eqb o t.ic nj, ne_eqb o t.inx nk, h)
-
-      pub blocks_b : same (point v o) t.a ≡ false → same (point v o) t.b ≡ true → false ≡ blocks v e t o
-      unfolding blocks
-      blocks_b ha h = rw (ne_eqb o t.ip ni, ne_eqb o t.ic nj, ne_eqb o t.inx nk, ha, h)
-
-      pub blocks_c : same (point v o) t.a ≡ false → same (point v o) t.b ≡ false → same (point v o) t.c ≡ true → false ≡ blocks v e t o
-      unfolding blocks
-      blocks_c ha hb h = rw (ne_eqb o t.ip ni, ne_eqb o t.ic nj, ne_eqb o t.inx nk, ha, hb, h)
-
-      pub blocks_all : same (point v o) t.a ≡ false → same (point v o) t.b ≡ false → same (point v o) t.c ≡ false
-          → in_triangle e t.a t.b t.c (point v o) ≡ true → true ≡ blocks v e t o
-      unfolding blocks
-      blocks_all ha hb hc h = rw (ne_eqb o t.ip ni, ne_eqb o t.ic nj, ne_eqb o t.inx nk, ha, hb, hc, h)
+  pub blocks_touched : {a b c : Bool} → a ≡ in_triangle e t.a t.b t.c p → b ≡ (eqb o t.ip || (eqb o t.ic || eqb o t.inx))
+      → c ≡ (same p t.a || (same p t.b || same p t.c)) → a ≡ true → not b ≡ true → not c ≡ blocks v e t o
+  blocks_touched {a} {b} {c} ha hb hc h k = sym (ap (λ (x : Bool). x && (not b && not c)) h ∙ ap (λ (x : Bool). x && not c) k) ∙ blocks_by ha hb hc

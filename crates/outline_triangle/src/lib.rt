@@ -1,8 +1,8 @@
 // One triangle of the ear clipper (src/tessellate.rs, triangulate_polygon). v is the corner list, two floats to a corner.
 #![tactic(auto)]
 
-ghost use Rattle.std.specs.Prelude.{◌≡◌, ◌+◌, ◌*◌, ◌<◌, length};
-ghost use Rattle.outline.specs.Corners.{point};
+ghost use Rattle.std.specs.Prelude.{◌≡◌, ◌==◌, ◌||◌, ◌+◌, ◌*◌, ◌<◌, length};
+ghost use Rattle.outline.specs.Corners.{point, same};
 ghost use Rattle.outline_triangle.specs.Triangle.{cross as cross·, tolerance as tolerance·, in_triangle, blocks as blocks·};
 
 use outline::Point;
@@ -37,12 +37,10 @@ pub fn cross(a: Point, b: Point, c: Point) -> f64
 pub fn tolerance(v: &[f64]) -> f64
     ensures { result ≡ tolerance· v.now }
 {
-    let mut m = 0.0;
-    let mut i = 0;
-    while i < v.len() {
-        m = ieee::max(m, ieee::abs(v[i]));
-        i += 1;
-    }
+    let m = v
+        .iter()
+        .copied()
+        .fold(0.0, |m, x| ieee::max(m, ieee::abs(x)));
     let scale = ieee::max(m, 1e-300);
     1e-12 * scale * scale
 }
@@ -52,10 +50,23 @@ pub fn tolerance(v: &[f64]) -> f64
 fn in_triangle(eps: f64, a: Point, b: Point, c: Point, p: Point) -> bool
     ensures { result ≡ in_triangle eps a b c p }
 {
-    if (cross(c, a, p) >= -eps) & (cross(b, c, p) >= -eps) {
-        return cross(a, b, p) >= -eps;
+    (cross(c, a, p) >= -eps) & (cross(b, c, p) >= -eps) && cross(a, b, p) >= -eps
+}
+
+impl Triangle {
+    // Whether o is the number of one of its corners.
+    fn names(self, o: u32) -> bool
+        ensures { result ≡ (o == self.ip || (o == self.ic || o == self.inx)) }
+    {
+        o == self.ip || o == self.ic || o == self.inx
     }
-    false
+
+    // Whether p equals one of its points.
+    fn touches(self, p: Point) -> bool
+        ensures { result ≡ (same p self.a || (same p self.b || same p self.c)) }
+    {
+        p == self.a || p == self.b || p == self.c
+    }
 }
 
 // Whether corner o keeps t from being clipped. Most corners lie outside, so that is asked first; the order does not change the answer.
@@ -64,26 +75,5 @@ pub fn blocks(v: &[f64], eps: f64, t: Triangle, o: u32) -> bool
     ensures { result ≡ blocks· v.now eps t o }
 {
     let p = point_of(v, o);
-    if !in_triangle(eps, t.a, t.b, t.c, p) {
-        return false;
-    }
-    if o == t.ip {
-        return false;
-    }
-    if o == t.ic {
-        return false;
-    }
-    if o == t.inx {
-        return false;
-    }
-    if outline::same(p, t.a) {
-        return false;
-    }
-    if outline::same(p, t.b) {
-        return false;
-    }
-    if outline::same(p, t.c) {
-        return false;
-    }
-    true
+    in_triangle(eps, t.a, t.b, t.c, p) && !t.names(o) && !t.touches(p)
 }

@@ -1,4 +1,5 @@
 -- The laws by which the code's state follows the definition's: a pass, the passes, the last triangle. Assumes nothing.
+use Rattle.std.proofs.Common.{Option, Some, None}
 use Prim.Native.Nat.{ℕ, zero, suc, ◌+◌, ◌-◌, ◌*◌, ◌/◌, ◌<◌, ◌≤◌}
 use mathlib.Core.Path.{◌≡◌, refl, sym, ap, ◌∙◌}
 use mathlib.Core.Bool.{true, false}
@@ -14,19 +15,15 @@ use Rattle.outline.specs.Corners.{point}
 use Rattle.outline_triangle.specs.Triangle.{cross, tolerance}
 use Rattle.outline_triangle.specs.declared.Triangle.{Triangle}
 use Rattle.outline_ears.specs.Ears.{ip, inx, counting, triangle_at, is_ear, is_flat, first_ear, first_flat}
-use Rattle.outline_ears.specs.Inside.{Inside}
+use Rattle.outline_ears.specs.Inside.{Inside, idx_of}
 use Rattle.outline_ears.specs.Kinds.{Kinds}
-use Rattle.outline_ears.specs.declared.Found.{Found}
-use Rattle.outline_ears.specs.declared.Found.TheVariants.{At, Nothing}
 use Rattle.outline_ears.proofs.Laws.{idx_length, idx_at, find_below}
-use Rattle.outline_remaining.specs.declared.Remaining.{Remaining}
-use Rattle.outline_remaining.specs.Removed.{idx_of, Removed}
+use Rattle.outline_ears.specs.declared.Remaining.{Remaining}
+use Rattle.outline_remaining.specs.Removed.{SameCorners, Removed}
 use Rattle.outline_triangulate.specs.Triangulate.{Clipping, fan, clipped, dropped, fanned, by_found, pass, passes, finished, start, triangulated}
 use Rattle.outline_triangulate.specs.Triangulate.{triangulate_polygon}
 use Rattle.outline_triangulate.specs.Slices.{clipping_of, none, Room, Passing, CutAs, WroteTriangles}
 use Rattle.outline_triangulate.specs.declared.Cut.{Cut}
-use Rattle.outline_triangulate.specs.declared.Passed.{Passed}
-use Rattle.outline_triangulate.specs.declared.Passed.TheVariants.{Without, Fanned}
 
 -- ---- states
 
@@ -37,15 +34,15 @@ clipping_eq el et er = rw (el, et, er)
 -- ---- a pass, the passes and the last triangle, by the definition
 
 module _ (v : List Float) (e : Float) (s : Clipping) where
-  pub pass_ear : (k : ℕ) → first_ear v e s.idx ≡ At k → clipped s k ≡ pass v e s
+  pub pass_ear : (k : ℕ) → first_ear v e s.idx ≡ Some k → clipped s k ≡ pass v e s
   unfolding pass by_found
   pass_ear k h = rw h
 
-  pub pass_flat : (k : ℕ) → first_ear v e s.idx ≡ Nothing → first_flat v e s.idx ≡ At k → dropped s k ≡ pass v e s
+  pub pass_flat : (k : ℕ) → first_ear v e s.idx ≡ None → first_flat v e s.idx ≡ Some k → dropped s k ≡ pass v e s
   unfolding pass by_found
   pass_flat k h h' = rw (h, h')
 
-  pub pass_fan : first_ear v e s.idx ≡ Nothing → first_flat v e s.idx ≡ Nothing → fanned s ≡ pass v e s
+  pub pass_fan : first_ear v e s.idx ≡ None → first_flat v e s.idx ≡ None → fanned s ≡ pass v e s
   unfolding pass by_found
   pass_fan h h' = rw (h, h')
 
@@ -74,99 +71,63 @@ module _ (v : List Float) (e : Float) (s : Clipping) where
 
 -- ---- a pass of the code, by what the two searches answer
 
-module _ (v : List Float) (e : Float) (idx : List ℕ) (n : ℕ) (s : Inside v idx n) (k : ℕ) {f : Found} where
-  pub ear_below : f ≡ first_ear v e (take n idx) → f ≡ At k → k < n
+module _ (v : List Float) (e : Float) (idx : List ℕ) (n : ℕ) (s : Inside v idx n) (k : ℕ) {f : Option ℕ} where
+  pub ear_below : f ≡ first_ear v e (take n idx) → f ≡ Some k → k < n
   unfolding first_ear
   ear_below h hk = omega (arith, find_below (is_ear v e (take n idx)) (length (take n idx)) 0 k (sym h ∙ hk), idx_length v idx n s)
 
-  pub flat_below : f ≡ first_flat v e (take n idx) → f ≡ At k → k < n
+  pub flat_below : f ≡ first_flat v e (take n idx) → f ≡ Some k → k < n
   unfolding first_flat
   flat_below h hk = omega (arith, find_below (is_flat v e (take n idx)) (length (take n idx)) 0 k (sym h ∙ hk), idx_length v idx n s)
 
-module _ (v : List Float) (e : Float) (idx : List ℕ) (n : ℕ) (c : Cut) (b : List ℕ) (h3 : 3 < n) (s : Inside v idx n) (m : Room n c b) {f : Found} (ear : f ≡ first_ear v e (take n idx)) where
+module _ (v : List Float) (e : Float) (w : Remaining) (c : Cut) (b : List ℕ) (h3 : 3 < w.m) (s : Inside v w.idx w.m) (m : Room w.m c b) {f : Option ℕ}
+    (ear : f ≡ first_ear v e (idx_of w)) where
   -- an ear is clipped
-  pub clip_passing : (k : ℕ) (x : Triangle) (a : List ℕ) → f ≡ At k → x ≡ triangle_at v (take n idx) k → length a ≡ length b
-      → WroteTriangles c.triangles (c.triangles + 1) (x.ip ∷ x.ic ∷ x.inx ∷ []) b a
-      → Passing v e idx n c b (Without k (record { triangles = c.triangles + 1; removed = c.removed + 1 })) a
+  pub clip_passing : (k : ℕ) (x : Triangle) (w' : Remaining) (a : List ℕ) → f ≡ Some k → x ≡ triangle_at v (idx_of w) k → length a ≡ length b
+      → WroteTriangles c.triangles (c.triangles + 1) (x.ip ∷ x.ic ∷ x.inx ∷ []) b a → Removed v e k w w'
+      → Passing v e w c b w' (record { triangles = c.triangles + 1; removed = c.removed + 1 }) a
   unfolding clipped triangle_at
-  clip_passing k x a at-k hx hl p =
-      let h : k < n = ear_below v e idx n s k ear at-k in
-      record {
-        state =
-            clipping_eq refl (p.front ∙ ap (λ (y : Triangle). take (3 * c.triangles) b ++ (y.ip ∷ y.ic ∷ y.inx ∷ [])) hx) refl
-            ∙ pass_ear v e (clipping_of (take n idx) c b) k (sym ear ∙ at-k);
-        rest = p.rest;
-        grows = omega arith;
-        room = record { room = omega (arith, m.room); few = omega (arith, m.few); short = omega (arith, m.short) };
-        index = h;
-      }
-
-  -- a flat corner goes
-  pub drop_passing : (k : ℕ) {g : Found} → f ≡ Nothing → g ≡ first_flat v e (take n idx) → g ≡ At k
-      → Passing v e idx n c b (Without k (record { triangles = c.triangles; removed = c.removed + 1 })) b
-  unfolding dropped
-  drop_passing k none flat at-k =
-      let h : k < n = flat_below v e idx n s k flat at-k in
-      record {
-        state = pass_flat v e (clipping_of (take n idx) c b) k (sym ear ∙ none) (sym flat ∙ at-k);
-        rest = refl;
-        grows = omega arith;
-        room = record { room = omega (arith, m.room); few = omega (arith, m.few); short = m.short };
-        index = h;
-      }
-
-  -- the rest is fanned
-  pub fan_passing : (t : ℕ) (a : List ℕ) {g : Found} → f ≡ Nothing → g ≡ first_flat v e (take n idx) → g ≡ Nothing → length a ≡ length b
-      → (t ≡ c.triangles + (n - 2)) × WroteTriangles c.triangles t (fan (take n idx)) b a → Passing v e idx n c b (Fanned (record { triangles = t; removed = c.removed })) a
-  unfolding fanned
-  fan_passing t a none flat none' hl p =
-      record {
-        state = clipping_eq refl p.1.front refl ∙ pass_fan v e (clipping_of (take n idx) c b) (sym ear ∙ none) (sym flat ∙ none');
-        rest = p.1.rest;
-        grows = omega arith;
-        room = record { room = omega (arith, m.room); few = omega (arith, m.few); short = omega (arith, m.short) };
-        index = tt;
-      }
-
--- what is known of an answer is known of the variant that it is
-pub passing_at : {v : List Float} {e : Float} {idx : List ℕ} {n : ℕ} {c : Cut} {b a : List ℕ} {r r' : Passed} → r ≡ r' → Passing v e idx n c b r a → Passing v e idx n c b r' a
-passing_at h p = rw h at p
-
--- ---- a step of the loop: from w, c and the slice b to w', c' and a, with the kinds x then
-
-pub record Goes (v : List Float) (e : Float) (w : Remaining) (c : Cut) (b : List ℕ) (w' : Remaining) (c' : Cut) (a x : List ℕ) : Type 0 where
-  pub inside : Inside v w'.idx w'.m
-  pub kept : Kinds v e w'.idx x w'.m
-  pub room : Room w'.m c' a
-  pub state : clipping_of (idx_of w') c' a ≡ pass v e (clipping_of (idx_of w) c b)
-  pub rest : drop (3 * c'.triangles) a ≡ drop (3 * c'.triangles) b
-  pub grows : c.triangles ≤ c'.triangles
-  pub falls : w'.m < w.m
-
-module _ (v : List Float) (e : Float) (w : Remaining) (c : Cut) (b : List ℕ) (c' : Cut) (a : List ℕ) (s : Inside v w.idx w.m) where
-  pub goes_without : (k : ℕ) (l x : List ℕ) → Passing v e w.idx w.m c b (Without k c') a → Removed v e w.m k w.idx l x
-      → Goes v e w c b (record { idx = l; m = w.m - 1 }) c' a x
-  goes_without k l x p q =
+  clip_passing k x w' a at-k hx hl p q =
       record {
         inside = q.inside;
         kept = q.kept;
-        room = p.room;
-        state = clipping_eq q.list refl refl ∙ p.state;
+        room = record { room = omega (arith, m.room, q.count); few = omega (arith, m.few, q.count); short = omega (arith, m.short) };
+        state =
+            clipping_eq q.list (p.front ∙ ap (λ (y : Triangle). take (3 * c.triangles) b ++ (y.ip ∷ y.ic ∷ y.inx ∷ [])) hx) refl
+            ∙ pass_ear v e (clipping_of (idx_of w) c b) k (sym ear ∙ at-k);
         rest = p.rest;
-        grows = p.grows;
-        falls = omega (arith, p.index);
+        grows = omega arith;
+        falls = omega (arith, q.count);
       }
 
-  pub goes_fanned : (x : List ℕ) → 3 < w.m → Kinds v e w.idx x w.m → Passing v e w.idx w.m c b (Fanned c') a
-      → Goes v e w c b (record { idx = w.idx; m = 0 }) c' a x
-  goes_fanned x h3 q p =
+  -- a flat corner goes
+  pub drop_passing : (k : ℕ) (w' : Remaining) {g : Option ℕ} → f ≡ None → g ≡ first_flat v e (idx_of w) → g ≡ Some k → Removed v e k w w'
+      → Passing v e w c b w' (record { triangles = c.triangles; removed = c.removed + 1 }) b
+  unfolding dropped
+  drop_passing k w' none flat at-k q =
+      record {
+        inside = q.inside;
+        kept = q.kept;
+        room = record { room = omega (arith, m.room, q.count); few = omega (arith, m.few, q.count); short = m.short };
+        state = clipping_eq q.list refl refl ∙ pass_flat v e (clipping_of (idx_of w) c b) k (sym ear ∙ none) (sym flat ∙ at-k);
+        rest = refl;
+        grows = omega arith;
+        falls = omega (arith, q.count);
+      }
+
+  -- the rest is fanned
+  pub fan_passing : (t : ℕ) (a : List ℕ) {g : Option ℕ} → f ≡ None → g ≡ first_flat v e (idx_of w) → g ≡ None → length a ≡ length b
+      → Kinds v e w.idx w.kinds w.m → (t ≡ c.triangles + (w.m - 2)) × WroteTriangles c.triangles t (fan (idx_of w)) b a
+      → Passing v e w c b (record { idx = w.idx; kinds = w.kinds; m = 0 }) (record { triangles = t; removed = c.removed }) a
+  unfolding fanned
+  fan_passing t a none flat none' hl x p =
       record {
         inside = record { long = s.long; small = omega arith; there = λ i h. absurd (not-suc-le-zero h) };
-        kept = record { long = q.long; there = λ i h. absurd (not-suc-le-zero h) };
-        room = p.room;
-        state = p.state;
-        rest = p.rest;
-        grows = p.grows;
+        kept = record { long = x.long; there = λ i h. absurd (not-suc-le-zero h) };
+        room = record { room = omega (arith, m.room); few = omega (arith, m.few); short = omega (arith, m.short) };
+        state = clipping_eq refl p.1.front refl ∙ pass_fan v e (clipping_of (idx_of w) c b) (sym ear ∙ none) (sym flat ∙ none');
+        rest = p.1.rest;
+        grows = omega arith;
         falls = omega arith;
       }
 
@@ -195,18 +156,36 @@ reaches_end v e s r n h q = sym (passes_done v e s q.fuel h) ∙ q.there
 
 -- ---- the loop
 
--- what the loop keeps: w remain, with the kinds x, c has the counts, out is the slice, which was out₀ at first; the passes go on to r
-pub record Going (v : List Float) (e : Float) (r : Clipping) (out₀ : List ℕ) (w : Remaining) (c : Cut) (out x : List ℕ) : Type 0 where
+-- what the loop keeps: w remain, c has the counts, out is the slice, which was out₀ at first; the passes go on to r
+pub record Going (v : List Float) (e : Float) (r : Clipping) (out₀ : List ℕ) (w : Remaining) (c : Cut) (out : List ℕ) : Type 0 where
   pub inside : Inside v w.idx w.m
-  pub kept : Kinds v e w.idx x w.m
+  pub kept : Kinds v e w.idx w.kinds w.m
   pub room : Room w.m c out
   pub long : length out ≡ length out₀
   pub rest : drop (3 * c.triangles) out ≡ drop (3 * c.triangles) out₀
   pub reaches : Reaches v e (clipping_of (idx_of w) c out) r w.m
 
-pub goes_on : (v : List Float) (e : Float) (r : Clipping) (out₀ : List ℕ) (w : Remaining) (c : Cut) (b x : List ℕ) (w' : Remaining) (c' : Cut) (a x' : List ℕ)
-    → 3 < w.m → length a ≡ length b → Goes v e w c b w' c' a x' → Going v e r out₀ w c b x → Going v e r out₀ w' c' a x'
-goes_on v e r out₀ w c b x w' c' a x' h3 hl g i =
+-- w' has the corners of w, and their kinds
+pub goes_from : (v : List Float) (e : Float) (w w' : Remaining) (out : List ℕ) → 1 ≤ w.m → Inside v w.idx w.m → Room w.m none out → SameCorners w w'
+    → Kinds v e w'.idx w'.kinds w'.m → Going v e (passes (w.m * w.m) v e (clipping_of (idx_of w) none out)) out w' none out
+goes_from v e w w' out h s m q x =
+    record {
+      inside = rw (q.numbers, q.count) s;
+      kept = x;
+      room = rw q.count m;
+      long = refl;
+      rest = refl;
+      reaches =
+          record {
+            fuel = w.m * w.m;
+            enough = omega (arith, q.count, square_enough w.m h);
+            there = λ j. passes (w.m * w.m) v e (clipping_of (take (q.count j) (q.numbers j)) none out);
+          };
+    }
+
+pub goes_on : (v : List Float) (e : Float) (r : Clipping) (out₀ : List ℕ) (w : Remaining) (c : Cut) (b : List ℕ) (w' : Remaining) (c' : Cut) (a : List ℕ)
+    → 3 < w.m → length a ≡ length b → Passing v e w c b w' c' a → Going v e r out₀ w c b → Going v e r out₀ w' c' a
+goes_on v e r out₀ w c b w' c' a h3 hl g i =
     record {
       inside = g.inside;
       kept = g.kept;

@@ -1,12 +1,10 @@
 -- `triangulate_polygon` of src/tessellate.rs, with docs/SCOPE.md's count of the corners that were removed singly.
 -- v is the corner list, two floats to a corner, and eps the Rust's eps. Triangles are a list of corner numbers, three to a triangle. Assumes nothing.
-use Rattle.std.specs.Prelude.{ℕ, zero, suc, ◌+◌, ◌*◌, ◌/◌, cond, ◌&&◌, List, [], ◌∷◌, ◌++◌, length, get_or, take, ltb, eqb, Float}
+use Rattle.std.specs.Prelude.{ℕ, zero, suc, ◌+◌, ◌*◌, ◌/◌, cond, ◌&&◌, List, [], ◌∷◌, ◌++◌, length, get_or, take, ltb, eqb, Option, Some, None, Float}
 use Rattle.std.specs.Float.Ieee.{lt}
 use Rattle.outline.specs.Corners.{point}
 use Rattle.outline_triangle.specs.Triangle.{cross, tolerance}
 use Rattle.outline_ears.specs.Ears.{ip, inx, counting, first_ear, first_flat}
-use Rattle.outline_ears.specs.declared.Found.{Found}
-use Rattle.outline_ears.specs.declared.Found.TheVariants.{At, Nothing}
 use Rattle.outline_remaining.specs.Without.{without}
 
 -- a state of the clipper: the Rust's idx, its out as a list of numbers, and the number of corners that were clipped or dropped one by one (S21)
@@ -46,9 +44,9 @@ unfolding fan
 fanned s = record { idx = []; triangles = s.triangles ++ fan s.idx; removed = s.removed }
 
 -- what f makes of the index that was found, or s where there is none
-unfoldable pub by_found : Found → (ℕ → Clipping) → Clipping → Clipping
-by_found (At k) f s = f k
-by_found Nothing f s = s
+unfoldable pub by_found : Option ℕ → (ℕ → Clipping) → Clipping → Clipping
+by_found (Some k) f s = f k
+by_found None f s = s
 
 -- one pass of the Rust's while loop: it clips the first ear that nothing blocks, failing that drops the first flat corner, failing that fans what remains
 unfoldable pub pass : List Float → Float → Clipping → Clipping

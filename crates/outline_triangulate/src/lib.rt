@@ -4,7 +4,7 @@
 mod lists;
 mod passes;
 
-use outline_remaining::Remaining;
+use outline_ears::Remaining;
 pub use passes::triangulate_polygon;
 
 // How many triangles were given, and how many corners were removed singly.
@@ -14,16 +14,9 @@ pub struct Cut {
     pub removed: usize,
 }
 
-// What a pass answers, with the counts then: the corner at an index of idx goes, or the rest was fanned and nothing remains.
-#[derive(Clone, Copy)]
-pub(crate) enum Passed {
-    Without(usize, Cut),
-    Fanned(Cut),
-}
-
 // What the passes leave: the corners that remain, three at most, and the counts.
 #[derive(Clone, Copy)]
 pub(crate) struct Trimmed {
-    pub left: Remaining,
-    pub cut: Cut,
+    left: Remaining,
+    cut: Cut,
 }

@@ -1,59 +1,46 @@
 // The clipper: one ear, one flat corner or the rest at a pass, until three corners remain or none.
-ghost use Rattle.std.specs.Prelude.{[], ◌∷◌, ◌+◌, ◌*◌, ◌/◌, ◌<◌, ◌≤◌, length, take};
-ghost use Rattle.outline_ears.specs.Inside.{Inside};
+ghost use Rattle.std.specs.Prelude.{◌≡◌, [], ◌∷◌, ◌+◌, ◌*◌, ◌/◌, ◌<◌, ◌≤◌, length};
+ghost use Rattle.outline_ears.specs.Inside.{Inside, idx_of};
 ghost use Rattle.outline_ears.specs.Kinds.{Kinds};
 ghost use Rattle.outline_triangulate.specs.Triangulate.{finished, triangulate_polygon};
 ghost use Rattle.outline_triangulate.specs.Slices.{Room, none, Passing, Passes, CutAs, clipping_of};
 
-use crate::{Cut, Passed, Trimmed, lists};
-use outline_ears::Found;
-use outline_remaining::Remaining;
+use crate::{Cut, Trimmed, lists};
+use outline_ears::Remaining;
 
-// One pass over idx, the first m numbers of the array: it clips the first ear that nothing blocks, failing that drops the first flat corner, failing that
-// fans what remains.
-fn pass(
-    v: &[f64],
-    eps: f64,
-    idx: &[u32; 512],
-    kinds: &[u8; 512],
-    m: usize,
-    cut: Cut,
-    out: &mut [u32],
-) -> Passed
-    requires { (3 < m) × Inside v.now idx.now m × Kinds v.now eps idx.now kinds.now m × Room m cut out.old }
-    ensures { Passing v.now eps idx.now m cut out.old result out.new }
+// The counts at the start.
+const NONE: Cut = Cut {
+    triangles: 0,
+    removed: 0,
+};
+
+// One pass over the corners that remain, with the counts so far: it clips the first ear that nothing blocks, failing that drops the first flat corner, failing
+// that fans what remains, and nothing does then. It returns the new counts.
+fn pass(v: &[f64], eps: f64, left: &mut Remaining, cut: Cut, out: &mut [u32]) -> Cut
+    requires { (3 < left.old.m) × Inside v.now left.old.idx left.old.m × Kinds v.now eps left.old.idx left.old.kinds left.old.m × Room left.old.m cut out.old }
+    ensures { Passing v.now eps left.old cut out.old left.new result out.new }
 {
     let t = cut.triangles;
     let removed = cut.removed;
-    match outline_ears::first_ear(v, eps, idx, kinds, m) {
-        Found::At(k) => {
-            let ear = outline_ears::triangle_at(v, idx, m, k);
-            lists::put(out, t, ear.ip, ear.ic, ear.inx);
-            Passed::Without(
-                k,
-                Cut {
-                    triangles: t + 1,
-                    removed: removed + 1,
-                },
-            )
-        }
-        Found::Nothing => match outline_ears::first_flat(kinds, m) {
-            Found::At(k) => Passed::Without(
-                k,
-                Cut {
-                    triangles: t,
-                    removed: removed + 1,
-                },
-            ),
-            Found::Nothing => {
-                let all = lists::fan(idx, m, t, out);
-                Passed::Fanned(Cut {
-                    triangles: all,
-                    removed: removed,
-                })
-            }
-        },
+    if let Some(k) = outline_ears::first_ear(v, eps, left) {
+        let ear = outline_ears::triangle_at(v, left, k);
+        lists::put(out, t, ear.ip, ear.ic, ear.inx);
+        outline_remaining::remove(v, eps, left, k);
+        return Cut {
+            triangles: t + 1,
+            removed: removed + 1,
+        };
     }
+    if let Some(k) = outline_ears::first_flat(left) {
+        outline_remaining::remove(v, eps, left, k);
+        return Cut {
+            triangles: t,
+            removed: removed + 1,
+        };
+    }
+    let triangles = lists::fan(left, t, out);
+    left.m = 0;
+    Cut { triangles, removed }
 }
 
 // The corners i, j and k are the last triangle where their cross is above eps; a NaN is not.
@@ -79,47 +66,30 @@ fn last(v: &[f64], eps: f64, i: u32, j: u32, k: u32, cut: Cut, out: &mut [u32]) 
 }
 
 // Three corners that remain may be a triangle. Fewer give none.
-fn finish(v: &[f64], eps: f64, idx: &[u32; 512], m: usize, cut: Cut, out: &mut [u32]) -> Cut
-    requires { (m ≤ 3) × Inside v.now idx.now m × Room m cut out.old }
-    ensures { (cut.triangles ≤ result.triangles) × CutAs (finished v.now eps (clipping_of (take m idx.now) cut out.old))
+fn finish(v: &[f64], eps: f64, left: &Remaining, cut: Cut, out: &mut [u32]) -> Cut
+    requires { (left.now.m ≤ 3) × Inside v.now left.now.idx left.now.m × Room left.now.m cut out.old }
+    ensures { (cut.triangles ≤ result.triangles) × CutAs (finished v.now eps (clipping_of (idx_of left.now) cut out.old))
         result out.old out.new }
 {
-    if m == 3 {
-        return last(v, eps, idx[0], idx[1], idx[2], cut, out);
+    if left.m == 3 {
+        return last(v, eps, left.idx[0], left.idx[1], left.idx[2], cut, out);
     }
     cut
 }
 
-// The passes over the corners that remain, until three remain or none. A corner is taken out of the struct's own array. The crosses are worked out once, and
-// again for the two corners beside one that goes; kinds holds what they make of the corners.
+// The passes over the corners that remain, until three remain or none; what is left then, and the counts. The crosses are worked out once, and again for the
+// two corners beside one that goes.
 fn clip(v: &[f64], eps: f64, mut left: Remaining, out: &mut [u32]) -> Trimmed
-    requires { (1 ≤ left.m) × Inside v.now left.idx left.m × Room left.m none out.old }
-    ensures { Passes v.now eps left out.old result out.new }
+    requires { (1 ≤ left.m) × Inside v.now left.idx left.m × Room left.m none out.old × (length left.kinds ≡ 512) }
+    ensures { Passes v.now eps left out.old result.left result.cut out.new }
 {
-    let mut cut = Cut {
-        triangles: 0,
-        removed: 0,
-    };
-    let mut kinds = [0u8; 512];
-    outline_remaining::all_kinds(v, eps, &left.idx, left.m, &mut kinds);
+    let mut cut = NONE;
+    outline_remaining::all_kinds(v, eps, &mut left);
+    // A `while`: each pass leaves one corner fewer or none, so no range counts the passes.
     while 3 < left.m {
-        let m = left.m;
-        match pass(v, eps, &left.idx, &kinds, m, cut, out) {
-            Passed::Without(k, counts) => {
-                outline_remaining::remove(v, eps, &mut left.idx, &mut kinds, m, k);
-                left.m = m - 1;
-                cut = counts;
-            }
-            Passed::Fanned(counts) => {
-                left.m = 0;
-                cut = counts;
-            }
-        }
+        cut = pass(v, eps, &mut left, cut, out);
     }
-    Trimmed {
-        left: left,
-        cut: cut,
-    }
+    Trimmed { left, cut }
 }
 
 // The Rust's triangulate_polygon, an inner function: clip_outline and the solids refuse more than 512 corners before they call it. The triangles are at the
@@ -130,21 +100,13 @@ pub fn triangulate_polygon(v: &[f64], out: &mut [u32]) -> Cut
 {
     let n = v.len() / 2;
     if n < 3 {
-        return Cut {
-            triangles: 0,
-            removed: 0,
-        };
+        return NONE;
     }
     let eps = outline_triangle::tolerance(v);
     if n == 3 {
-        let none = Cut {
-            triangles: 0,
-            removed: 0,
-        };
-        return last(v, eps, 0, 1, 2, none, out);
+        return last(v, eps, 0, 1, 2, NONE, out);
     }
-    let clipped = clip(v, eps, outline_remaining::counting(n), out);
-    let left = clipped.left;
-    let m = left.m;
-    finish(v, eps, &left.idx, m, clipped.cut, out)
+    let left = outline_remaining::counting(n);
+    let trimmed = clip(v, eps, left, out);
+    finish(v, eps, &trimmed.left, trimmed.cut, out)
 }

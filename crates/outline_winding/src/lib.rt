@@ -23,11 +23,8 @@ fn signed_area(v: &[f64]) -> f64
 {
     let n = v.len() / 2;
     let mut s = 0.0;
-    let mut i = 0;
-    while i < n {
-        let j = (i + 1) % n;
-        s = s + wedge(corner(v, i), corner(v, j));
-        i += 1;
+    for i in 0..n {
+        s += wedge(corner(v, i), corner(v, (i + 1) % n));
     }
     s / 2.0
 }
@@ -37,15 +34,12 @@ fn reverse(out: &mut [f64], n: usize)
     requires { 2 * n ≤ length out.old }
     ensures { take (2 * n) out.new ≡ reversed (take (2 * n) out.old) }
 {
-    let mut i = 0;
-    let mut j = n;
-    while i + 1 < j {
-        j -= 1;
+    for i in 0..n / 2 {
+        let j = n - i - 1;
         let p = corner(out, i);
         let q = corner(out, j);
         put_corner(out, i, q);
         put_corner(out, j, p);
-        i += 1;
     }
 }
 
@@ -55,11 +49,9 @@ fn copy_swapped(v: &[f64], out: &mut [f64]) -> usize
     ensures { Copied (swapped v.now) result out.old out.new }
 {
     let n = v.len() / 2;
-    let mut i = 0;
-    while i < n {
+    for i in 0..n {
         let p = corner(v, i);
         put_corner(out, i, Point { x: p.y, y: p.x });
-        i += 1;
     }
     n
 }

@@ -1,14 +1,13 @@
 // The refusals and their numbers (docs/SCOPE.md, "Refusals").
 #![tactic(auto)]
 
-ghost use Rattle.std.specs.Prelude.{◌≡◌};
-ghost use Rattle.refusal.specs.Accepted.{is_accepted};
+ghost use Rattle.std.specs.Prelude.{◌≡◌, Some};
+ghost use Rattle.refusal.specs.Answer.{answer_of};
 ghost use Rattle.refusal.specs.Number.{number_of};
 
-// The answer of a call: accepted, or why it was refused.
-#[derive(Clone, Copy)]
+// Why a call was refused.
+#[derive(Clone, Copy, Debug, PartialEq, Eq)]
 pub enum Refusal {
-    Accepted,
     // A float of a drawing, of an operation or of a mesh handed in is an infinity or a NaN.
     NotFinite,
     // The absolute value of an angle is above 1,000.
@@ -33,29 +32,33 @@ pub enum Refusal {
     NoSolid,
 }
 
-// docs/SCOPE.md's number, 0 where the call was accepted.
-pub fn number(r: Refusal) -> u32
-    ensures { result ≡ number_of r }
-{
-    match r {
-        Refusal::Accepted => 0,
-        Refusal::NotFinite => 1,
-        Refusal::AngleTooLarge => 2,
-        Refusal::TooManySegments => 3,
-        Refusal::BadList => 4,
-        Refusal::PointNotFinite => 5,
-        Refusal::ShortWork => 6,
-        Refusal::NoRoom => 7,
-        Refusal::BadMesh => 8,
-        Refusal::BrokenField => 9,
-        Refusal::UnknownField => 10,
-        Refusal::NoSolid => 11,
+// docs/SCOPE.md's number of a refusal.
+impl From<Refusal> for u32 {
+    ghost from_gives = { λ refusal n. n ≡ number_of (Some refusal) };
+
+    fn from(refusal: Refusal) -> u32 {
+        match refusal {
+            Refusal::NotFinite => 1,
+            Refusal::AngleTooLarge => 2,
+            Refusal::TooManySegments => 3,
+            Refusal::BadList => 4,
+            Refusal::PointNotFinite => 5,
+            Refusal::ShortWork => 6,
+            Refusal::NoRoom => 7,
+            Refusal::BadMesh => 8,
+            Refusal::BrokenField => 9,
+            Refusal::UnknownField => 10,
+            Refusal::NoSolid => 11,
+        }
     }
 }
 
-// Whether the call was accepted.
-pub fn is_accepted(r: Refusal) -> bool
-    ensures { result ≡ is_accepted r }
+// docs/SCOPE.md's number of an answer, 0 where the call was accepted.
+pub fn number<T: Copy>(answer: Result<T, Refusal>) -> u32
+    ensures { result ≡ number_of (answer_of answer) }
 {
-    number(r) == 0
+    match answer {
+        Ok(_) => 0,
+        Err(refusal) => u32::from(refusal),
+    }
 }

@@ -8,36 +8,24 @@ ghost use Rattle.replay_calls.specs.Sessions.{claimed};
 use crate::loading::{load_floats, load_words};
 use crate::output;
 use crate::written::edited;
-use mesh::{Edited, TriMesh};
-use refusal::Refusal;
+use mesh::TriMesh;
 use replay_calls::{Answer, agreed, claimed_mesh};
 use replay_format::Head;
 use replay_slices::fill_words;
 use slice::wide;
-use transform::TransformOp;
-
-// Writes an edited mesh.
-fn answered(e: Edited, vertices: &[f64], triangles: &[u32]) -> Answer
-    ensures { result.mesh ≡ e.mesh }
-{
-    let m = e.mesh;
-    Answer {
-        mesh: m,
-        written: edited(e, vertices, triangles),
-    }
-}
+use transform::Operations;
 
 // Clips an outline. It answers whether the result was written.
 pub(crate) fn clip(list: &[f64], triangles: &mut [u32]) -> bool
     ensures { triangles.new ≡ (clip_outline list.now (length triangles.old)).slice }
 {
     fill_words(triangles);
-    let c = outline_clip::clip_outline(list, triangles);
-    let why = c.refusal;
+    let clipped = outline_clip::clip_outline(list, triangles);
+    let (given, removed) = clipped.map_or((0, 0), |cut| (cut.triangles, cut.removed));
     if !output::three_words(
-        refusal::number(why),
-        output::count(c.triangles),
-        output::count(c.removed),
+        refusal::number(clipped),
+        output::count(given),
+        output::count(removed),
     ) {
         return false;
     }
@@ -57,7 +45,7 @@ pub(crate) fn append(
         ≡ (append_of (state m vertices.old triangles.old)
         (state other other_vertices.now other_triangles.now)).state }
 {
-    let e = mesh::append(
+    let made = mesh::append(
         m,
         vertices,
         triangles,
@@ -65,30 +53,28 @@ pub(crate) fn append(
         other_vertices,
         other_triangles,
     );
-    answered(e, vertices, triangles)
+    edited(made, m, vertices, triangles)
 }
 
 pub(crate) fn flip(m: TriMesh, vertices: &[f64], triangles: &mut [u32]) -> Answer
     ensures { state result.mesh vertices.now triangles.new
         ≡ (flip_of (state m vertices.now triangles.old)).state }
 {
-    let e = mesh::flip(m, vertices, triangles);
-    answered(e, vertices, triangles)
+    let made = mesh::flip(m, vertices, triangles);
+    edited(made, m, vertices, triangles)
 }
 
 pub(crate) fn transform(
     m: TriMesh,
     vertices: &mut [f64],
     triangles: &mut [u32],
-    ops: [TransformOp; 16],
-    op_count: usize,
-    degrees: bool,
+    ops: &Operations,
 ) -> Answer
     ensures { state result.mesh vertices.new triangles.new
-        ≡ (transform_of ops op_count degrees (state m vertices.old triangles.old)).state }
+        ≡ (transform_of ops.now.ops ops.now.count ops.now.degrees (state m vertices.old triangles.old)).state }
 {
-    let e = mesh::transform(m, vertices, triangles, ops, op_count, degrees);
-    answered(e, vertices, triangles)
+    let made = mesh::transform(m, vertices, triangles, ops);
+    edited(made, m, vertices, triangles)
 }
 
 pub(crate) fn measure(m: TriMesh, vertices: &[f64], triangles: &[u32]) -> bool {
@@ -96,18 +82,20 @@ pub(crate) fn measure(m: TriMesh, vertices: &[f64], triangles: &[u32]) -> bool {
     let enclosed = mesh::enclosed_volume(m, vertices, triangles);
     let area = mesh::area(m, vertices, triangles);
     let boxed = mesh::bounding_box(m, vertices, triangles);
-    let p = volume.refusal;
-    let q = enclosed.refusal;
-    let r = area.refusal;
-    let s = boxed.refusal;
     let why = agreed(
-        refusal::number(p),
-        refusal::number(q),
-        refusal::number(r),
-        refusal::number(s),
+        refusal::number(volume),
+        refusal::number(enclosed),
+        refusal::number(area),
+        refusal::number(boxed),
     );
-    let bounds = boxed.bounds;
-    output::measured(why, volume.bits, enclosed.bits, area.bits, bounds)
+    let bounds = boxed.unwrap_or(mesh_box::zero_box());
+    output::measured(
+        why,
+        volume.unwrap_or(0),
+        enclosed.unwrap_or(0),
+        area.unwrap_or(0),
+        bounds,
+    )
 }
 
 // Loads both slices.
@@ -129,9 +117,5 @@ pub(crate) fn load(h: Head, vertices: &mut [f64], triangles: &mut [u32]) -> Answ
             written: false,
         };
     }
-    let e = Edited {
-        refusal: Refusal::Accepted,
-        mesh: m,
-    };
-    answered(e, vertices, triangles)
+    edited(Ok(m), m, vertices, triangles)
 }

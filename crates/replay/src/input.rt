@@ -1,7 +1,6 @@
 // Reading from standard input, in blocks. Each function answers whether the input had enough.
+// Floats and words apart: one function over both would take the size of an item and what reads it, and be as long as the two.
 ghost use Rattle.std.specs.Prelude.{◌≤◌, length};
-
-use replay_slices::least;
 
 // Fills b.
 pub(crate) fn fill(b: &mut [u8]) -> bool {
@@ -12,84 +11,45 @@ pub(crate) fn fill(b: &mut [u8]) -> bool {
     n == b.len()
 }
 
-// Reads the first floats of out, as many as buf holds at once. It answers how many: 0 where the input has not enough.
-fn floats_block(out: &mut [f64], buf: &mut [u8]) -> usize
-    ensures { result ≤ length out.old }
-{
-    let n = least(out.len(), buf.len() / 8);
-    if !fill(&mut buf[..8 * n]) {
-        return 0;
-    }
-    slice_byte_lists::get_floats(buf, &mut out[..n]);
-    n
-}
-
 // Fills out with floats.
 pub(crate) fn floats(out: &mut [f64]) -> bool {
     let mut buf = [0u8; 16384];
-    let mut i = 0;
-    while i < out.len() {
-        let n = floats_block(&mut out[i..], &mut buf);
-        if n == 0 {
+    for block in out.chunks_mut(2048) {
+        let n = 8 * block.len();
+        if !fill(&mut buf[..n]) {
             return false;
         }
-        i += n;
+        slice_byte_lists::get_floats(&buf[..n], block);
     }
     true
-}
-
-// Reads the first numbers of out, as many as buf holds at once. It answers how many: 0 where the input has not enough.
-fn words_block(out: &mut [u32], buf: &mut [u8]) -> usize
-    ensures { result ≤ length out.old }
-{
-    let n = least(out.len(), buf.len() / 4);
-    if !fill(&mut buf[..4 * n]) {
-        return 0;
-    }
-    slice_byte_lists::get_words(buf, &mut out[..n]);
-    n
 }
 
 // Fills out with 32-bit numbers.
 pub(crate) fn words(out: &mut [u32]) -> bool {
     let mut buf = [0u8; 16384];
-    let mut i = 0;
-    while i < out.len() {
-        let n = words_block(&mut out[i..], &mut buf);
-        if n == 0 {
+    for block in out.chunks_mut(4096) {
+        let n = 4 * block.len();
+        if !fill(&mut buf[..n]) {
             return false;
         }
-        i += n;
+        slice_byte_lists::get_words(&buf[..n], block);
     }
     true
-}
-
-// Passes over the first of n bytes, as many as buf holds at once. It answers how many: 0 where the input has not enough.
-fn skip_block(n: usize, buf: &mut [u8]) -> usize
-    ensures { result ≤ n }
-{
-    let k = least(n, buf.len());
-    if !fill(&mut buf[..k]) {
-        return 0;
-    }
-    k
 }
 
 // Passes over n bytes.
 fn skip(n: usize) -> bool {
     let mut buf = [0u8; 16384];
-    let mut left = n;
-    while 0 < left {
-        let k = skip_block(left, &mut buf);
-        if k == 0 {
+    for _ in 0..n / 16384 {
+        if !fill(&mut buf) {
             return false;
         }
-        left -= k;
     }
-    true
+    fill(&mut buf[..n % 16384])
 }
 
 // Passes over n floats, fewer than 2^32.
+// One line each: as one function of an item's size it would need a clause that bounds the size.
 pub(crate) fn skip_floats(n: usize) -> bool {
     if n < 4294967296 { skip(8 * n) } else { false }
 }

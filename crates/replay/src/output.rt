@@ -1,8 +1,8 @@
 // Writing to standard output, in blocks. Each function answers whether all was written.
+// Floats and words apart: one function over both would take the size of an item and what writes it, and be as long as the two.
 ghost use Rattle.std.specs.Prelude.{◌≡◌, ◌+◌, ◌≤◌, min, length};
 
 use math::{BoundingBox, Vec3};
-use replay_slices::least;
 
 // A count as a 32-bit number.
 pub(crate) fn count(n: usize) -> u32
@@ -25,27 +25,14 @@ pub(crate) fn three_words(p: u32, q: u32, r: u32) -> bool {
     io::write_all(1, &b)
 }
 
-// Writes the first floats of v, as many as buf holds at once. It answers how many: 0 where they were not written.
-fn floats_block(v: &[f64], buf: &mut [u8]) -> usize
-    ensures { result ≤ length v.now }
-{
-    let n = least(v.len(), buf.len() / 8);
-    slice_byte_lists::put_floats(&v[..n], buf);
-    if !io::write_all(1, &buf[..8 * n]) {
-        return 0;
-    }
-    n
-}
-
 pub(crate) fn floats(v: &[f64]) -> bool {
     let mut buf = [0u8; 16384];
-    let mut i = 0;
-    while i < v.len() {
-        let n = floats_block(&v[i..], &mut buf);
-        if n == 0 {
+    for block in v.chunks(2048) {
+        let n = 8 * block.len();
+        slice_byte_lists::put_floats(block, &mut buf);
+        if !io::write_all(1, &buf[..n]) {
             return false;
         }
-        i += n;
     }
     true
 }
@@ -58,27 +45,14 @@ pub(crate) fn bounds(b: BoundingBox) -> bool {
     floats(&six)
 }
 
-// Writes the first numbers of v, as many as buf holds at once. It answers how many: 0 where they were not written.
-fn words_block(v: &[u32], buf: &mut [u8]) -> usize
-    ensures { result ≤ length v.now }
-{
-    let n = least(v.len(), buf.len() / 4);
-    slice_byte_lists::put_words(&v[..n], buf);
-    if !io::write_all(1, &buf[..4 * n]) {
-        return 0;
-    }
-    n
-}
-
 pub(crate) fn words(v: &[u32]) -> bool {
     let mut buf = [0u8; 16384];
-    let mut i = 0;
-    while i < v.len() {
-        let n = words_block(&v[i..], &mut buf);
-        if n == 0 {
+    for block in v.chunks(4096) {
+        let n = 4 * block.len();
+        slice_byte_lists::put_words(block, &mut buf);
+        if !io::write_all(1, &buf[..n]) {
             return false;
         }
-        i += n;
     }
     true
 }

@@ -1,47 +1,33 @@
 // Call 1: the solid of a case.
-use mesh::Edited;
 use replay_calls::{Answer, Session, after};
+use replay_format::Head;
 use replay_head::{Case, own_system, system};
-use replay_slices::least;
-use shape::TessellationOptions;
+use shape::{Drawing, TessellationOptions};
 use slice::wide;
-use transform::TransformOp;
+use transform::{Operations, TransformOp};
 
-// The solid of a case in the lent slices.
-fn made(
-    c: Case,
-    ops: [TransformOp; 16],
-    vertices: &mut [f64],
-    triangles: &mut [u32],
-    work: &mut [u32],
-    list: &[f64],
-) -> Edited {
-    let h = c.head;
-    let shape = c.shape;
-    let own = own_system(h.own_system);
-    let default = system(h.default_system);
-    let options = TessellationOptions {
-        segments: wide(h.segments),
-        sphere_rings: wide(h.sphere_rings),
-    };
-    let t = tessellate::tessellate(
-        shape,
-        list,
-        own,
-        default,
-        options,
-        h.degrees == 1,
+// The operations of a case, as many as its head counts.
+pub(crate) fn operations(h: Head, ops: [TransformOp; 16]) -> Operations {
+    Operations {
         ops,
-        wide(h.op_count),
-        vertices,
-        triangles,
-        work,
-    );
-    let why = t.refusal;
-    let m = t.mesh;
-    Edited {
-        refusal: why,
-        mesh: m,
+        count: wide(h.op_count),
+        degrees: h.degrees == 1,
+    }
+}
+
+// What a case draws, with its list and its operations.
+fn drawing<'a>(c: Case, ops: [TransformOp; 16], list: &'a [f64]) -> Drawing<'a> {
+    let h = c.head;
+    Drawing {
+        shape: c.shape,
+        list,
+        own: own_system(h.own_system),
+        default: system(h.default_system),
+        options: TessellationOptions {
+            segments: wide(h.segments),
+            sphere_rings: wide(h.sphere_rings),
+        },
+        operations: operations(h, ops),
     }
 }
 
@@ -55,8 +41,9 @@ fn drawn(
     list: &[f64],
 ) -> Answer {
     replay_slices::fill_slices(vertices, triangles, work);
-    let e = made(c, ops, vertices, triangles, work, list);
-    crate::written::drawn(e, vertices, triangles, work)
+    let d = drawing(c, ops, list);
+    let made = tessellate::tessellate(&d, vertices, triangles, work);
+    crate::written::drawn(made, vertices, triangles, work)
 }
 
 // 1: tessellates into A, in the parts of the arrays that the case has.
@@ -70,10 +57,10 @@ pub(crate) fn tessellate(
     list: &[f64],
 ) -> Session {
     let h = c.head;
-    let n = least(wide(h.vertex_floats), va.len());
-    let k = least(wide(h.triangle_numbers), ta.len());
-    let w = least(wide(h.work_numbers), work.len());
-    let l = least(wide(h.list_floats), list.len());
+    let n = wide(h.vertex_floats).min(va.len());
+    let k = wide(h.triangle_numbers).min(ta.len());
+    let w = wide(h.work_numbers).min(work.len());
+    let l = wide(h.list_floats).min(list.len());
     let r = drawn(
         c,
         ops,

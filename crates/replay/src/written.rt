@@ -1,46 +1,48 @@
 // Writing of meshes.
 ghost use Rattle.std.specs.Prelude.{◌≡◌};
+ghost use Rattle.mesh_check.specs.State.{empty_record, record_after};
 
 use crate::output;
-use mesh::Edited;
+use mesh::TriMesh;
+use refusal::Refusal;
 use replay_calls::Answer;
 
-// The answer of an edit: refusal, counts, bounds and both slices.
-pub(crate) fn edited(e: Edited, vertices: &[f64], triangles: &[u32]) -> bool {
-    let m = e.mesh;
-    let why = e.refusal;
-    let bounds = m.bounds;
-    if !output::three_words(
-        refusal::number(why),
-        output::count(m.vertices),
-        output::count(m.triangles),
-    ) {
-        return false;
-    }
-    if !output::bounds(bounds) {
-        return false;
-    }
-    if !output::floats(vertices) {
-        return false;
-    }
-    output::words(triangles)
+// The answer of an edit: the refusal's number, and of the record that the edit leaves counts and bounds, then both slices.
+fn mesh_written(why: u32, m: TriMesh, vertices: &[f64], triangles: &[u32]) -> bool {
+    output::three_words(why, output::count(m.vertices), output::count(m.triangles))
+        && output::bounds(m.bounds)
+        && output::floats(vertices)
+        && output::words(triangles)
 }
 
-// The answer of a drawing: that of an edit, and the work slice.
-fn drawn_written(e: Edited, vertices: &[f64], triangles: &[u32], work: &[u32]) -> bool {
-    if !edited(e, vertices, triangles) {
-        return false;
-    }
-    output::words(work)
-}
-
-// Writes a drawn mesh.
-pub(crate) fn drawn(e: Edited, vertices: &[f64], triangles: &[u32], work: &[u32]) -> Answer
-    ensures { result.mesh ≡ e.mesh }
+// Writes what an edit of the mesh m answered: of a refused one the record is m.
+pub(crate) fn edited(
+    made: Result<TriMesh, Refusal>,
+    m: TriMesh,
+    vertices: &[f64],
+    triangles: &[u32],
+) -> Answer
+    ensures { result.mesh ≡ record_after m made }
 {
-    let m = e.mesh;
+    let mesh = made.unwrap_or(m);
     Answer {
-        mesh: m,
-        written: drawn_written(e, vertices, triangles, work),
+        mesh,
+        written: mesh_written(refusal::number(made), mesh, vertices, triangles),
+    }
+}
+
+// Writes a drawn mesh, and the work slice: of a refused one the record is the empty one.
+pub(crate) fn drawn(
+    made: Result<TriMesh, Refusal>,
+    vertices: &[f64],
+    triangles: &[u32],
+    work: &[u32],
+) -> Answer
+    ensures { result.mesh ≡ record_after empty_record made }
+{
+    let answer = edited(made, mesh_check::empty_record(), vertices, triangles);
+    Answer {
+        mesh: answer.mesh,
+        written: answer.written && output::words(work),
     }
 }

@@ -4,7 +4,7 @@ ghost use Rattle.replay_calls.specs.Sessions.{exchanged};
 ghost use Rattle.replay_slices.specs.Swapped.{swapped};
 
 use crate::session::Session;
-use replay_slices::{swap_floats, swap_words};
+use replay_slices::swap;
 
 // Exchanges A and B, with the content of their arrays.
 pub fn exchange(
@@ -18,8 +18,8 @@ pub fn exchange(
     ensures va_after { (va.new ≡ swapped vb.old va.old) × (vb.new ≡ swapped va.old vb.old) }
     ensures ta_after { (ta.new ≡ swapped tb.old ta.old) × (tb.new ≡ swapped ta.old tb.old) }
 {
-    swap_floats(va, vb);
-    swap_words(ta, tb);
+    swap(va, vb);
+    swap(ta, tb);
     let a = s.a;
     let b = s.b;
     Session {

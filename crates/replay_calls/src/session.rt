@@ -7,6 +7,7 @@ use replay_format::Head;
 use slice::wide;
 
 // The record of A after a call, and whether its result was written.
+// Not a Result: the clauses of replay::calls tell the record of a mesh that was not written too, and after_call keeps it.
 #[derive(Clone, Copy)]
 pub struct Answer {
     pub mesh: TriMesh,
@@ -22,6 +23,7 @@ pub struct Held {
 }
 
 // A and B, and whether the run goes on.
+// Not an Option of the two meshes: going_on, the clause of `going` and `stopped`, keeps both meshes of a run that ends.
 #[derive(Clone, Copy)]
 pub struct Session {
     pub a: Held,

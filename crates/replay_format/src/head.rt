@@ -3,8 +3,8 @@
 ghost use Rattle.std.specs.Prelude.{◌≡◌, ◌≤◌, length};
 ghost use Rattle.replay_format.specs.Layout.{bounds_of, head_of};
 
-use crate::ops::vec_at;
 use math::BoundingBox;
+use transform_bytes::vec_at;
 
 #[derive(Clone, Copy)]
 pub struct Head {

@@ -6,16 +6,15 @@ use Rattle.shape.specs.declared.Shape.{Shape}
 use Rattle.shape_fields.specs.Fields as Fields
 use Rattle.shape.specs.declared.CoordSystem.{CoordSystem}
 use Rattle.shape.specs.declared.CoordSystem.TheVariants.{Cartesian, Cylindrical}
-use Rattle.shape.specs.declared.OwnSystem.{OwnSystem}
-use Rattle.shape.specs.declared.OwnSystem.TheVariants.{Inherited, Own}
+use Rattle.std.specs.Prelude.{None, Option, Some}
 
 -- the default system: 1 is cylindrical
 unfoldable pub system_of : ℕ → CoordSystem
 system_of x = cond (eqb x 1) Cylindrical Cartesian
 
 -- the own system: 0 is none, 1 Cartesian
-unfoldable pub own_system_of : ℕ → OwnSystem
-own_system_of x = cond (eqb x 0) Inherited (cond (eqb x 1) (Own Cartesian) (Own Cylindrical))
+unfoldable pub own_system_of : ℕ → Option CoordSystem
+own_system_of x = cond (eqb x 0) None (cond (eqb x 1) (Some Cartesian) (Some Cylindrical))
 
 -- the shape of a case: ten numbers from byte 48 on
 unfoldable pub shape_in : Head → List ℕ → Shape

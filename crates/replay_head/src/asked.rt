@@ -12,6 +12,8 @@ fn mesh_allowed(h: Head) -> bool
 }
 
 // Whether the case asks for no more than the most places.
+// A match: it chooses a limit by the call, not a step to run.
+// The call's number as the case has it: the definitions allowed_of_call and before_call are by numbers, as the table of tests/README.md.
 pub fn allowed(h: Head) -> bool
     ensures { result ≡ allowed_of h }
 {
@@ -25,6 +27,7 @@ pub fn allowed(h: Head) -> bool
 }
 
 // n before a call, by the call's number: loading reads its own.
+// A test of the number: it chooses a count by the call, not a step to run.
 fn before_call(what: u8, n: u32) -> usize
     ensures { result ≡ before_call what n }
 {

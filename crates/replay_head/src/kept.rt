@@ -2,7 +2,6 @@
 ghost use Rattle.std.specs.Prelude.{◌≡◌};
 ghost use Rattle.replay_head.specs.Kept.{ops_of};
 
-use replay_slices::least;
 use transform::TransformOp;
 
 // The first of count operations at the start of b, of which 16 are kept.
@@ -11,12 +10,10 @@ pub fn ops(b: &[u8], count: usize) -> [TransformOp; 16]
 {
     let none = TransformOp::Scale(1.0);
     let mut out = [none; 16];
-    let n = least(least(b.len() / 136, count), 16);
-    let mut i = 0;
-    while i < n {
+    let n = (b.len() / 136).min(count).min(16);
+    for i in 0..n {
         let op = replay_format::op_at(b, 136 * i);
         out[i] = op;
-        i += 1;
     }
     out
 }

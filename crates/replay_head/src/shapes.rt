@@ -3,9 +3,10 @@ ghost use Rattle.std.specs.Prelude.{◌≡◌, ◌≤◌, length};
 ghost use Rattle.replay_head.specs.Shapes.{system_of, own_system_of, shape_in};
 
 use replay_format::Head;
-use shape::{CoordSystem, OwnSystem, Shape};
+use shape::{CoordSystem, Shape};
 
 // The default system.
+// Not From<u8> for CoordSystem: a byte is a system in more than one way (1 is the Cartesian one in own_system).
 pub fn system(x: u8) -> CoordSystem
     ensures { result ≡ system_of x }
 {
@@ -17,19 +18,18 @@ pub fn system(x: u8) -> CoordSystem
 }
 
 // The system of its own, or none.
-pub fn own_system(x: u8) -> OwnSystem
+pub fn own_system(x: u8) -> Option<CoordSystem>
     ensures { result ≡ own_system_of x }
 {
-    if x == 0 {
-        return OwnSystem::Inherited;
+    match x {
+        0 => None,
+        1 => Some(CoordSystem::Cartesian),
+        _ => Some(CoordSystem::Cylindrical),
     }
-    if x == 1 {
-        return OwnSystem::Own(CoordSystem::Cartesian);
-    }
-    OwnSystem::Own(CoordSystem::Cylindrical)
 }
 
 // The shape of a case. Its numbers start at byte 48 of the head.
+// Not From: a shape is read of the head and of its bytes, under a requires, which a From has no place for.
 pub fn shape_of(h: Head, head: &[u8]) -> Shape
     requires { 128 ≤ length head.now }
     ensures { result ≡ shape_in h head.now }

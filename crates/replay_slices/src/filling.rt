@@ -1,26 +1,18 @@
 // Filling of lent slices with the byte A5.
+// One line each: what is written differs with the type.
 ghost use Rattle.std.specs.Prelude.{◌≡◌};
 ghost use Rattle.replay_slices.specs.Filling.{word_a5, float_a5, filled};
 
 pub fn fill_words(out: &mut [u32])
     ensures { out.new ≡ filled word_a5 out.old }
 {
-    let mut i = 0;
-    while i < out.len() {
-        out[i] = 0xA5A5A5A5;
-        i += 1;
-    }
+    slice::clear_from(out, 0, 0xA5A5A5A5);
 }
 
 pub fn fill_floats(out: &mut [f64])
     ensures { out.new ≡ filled float_a5 out.old }
 {
-    let x = ieee::from_bits(0xA5A5A5A5A5A5A5A5);
-    let mut i = 0;
-    while i < out.len() {
-        out[i] = x;
-        i += 1;
-    }
+    slice::clear_from(out, 0, ieee::from_bits(0xA5A5A5A5A5A5A5A5));
 }
 
 // Fills the slices that a solid is drawn in.

@@ -5,7 +5,7 @@ ghost use Rattle.std.specs.Prelude.{◌≡◌};
 ghost use Rattle.root_case.specs.Case.{root_case};
 
 // The cases. The exponent is meant without its bias.
-#[derive(Clone, Copy)]
+#[derive(Clone, Copy, Debug, PartialEq, Eq)]
 pub enum RootCase {
     Zero,
     NotFinite,

@@ -7,15 +7,18 @@ use Prim.Native.Nat.{ℕ}
 use lib.ListN.{get_or}
 use types.Run.{OneOf, miss}
 use denote.Enum.Declared.{tag_of}
+use denote.Enum.Bare.{sameb}
+use Rattle.shape.specs.contracts.CoordSystem as ofCoordSystem
 use Rattle.shape.specs.contracts.Shape as ofShape
 use Rattle.shape.specs.declared.Shape.{Shape}
 use Rattle.shape.specs.declared.Shape.TheVariants.{Box, MultiBox, Sphere, SphericalShell, Cylinder, CylindricalShell, Polygon, LinPoly, RotPoly, Wire}
 use Rattle.shape.specs.declared.Items.{Items}
 use Rattle.shape.specs.declared.Items.TheVariants.{NoItems, Corners, Points, Boxes}
 use Rattle.shape.specs.declared.CoordSystem.{CoordSystem}
-use Rattle.shape.specs.declared.OwnSystem.{OwnSystem}
+use Rattle.shape.specs.declared.CoordSystem.TheVariants.{Cartesian, Cylindrical}
+use Rattle.std.specs.Prelude.{Option, Some, None, unwrap_or}
 use Rattle.shape.specs.Rotated.{is_rot_poly}
-use Rattle.shape.specs.Drawing.{effective_cs, shape_cs, items_of}
+use Rattle.shape.specs.Drawing.{cylindrical, effective_cs, shape_cs, items_of}
 
 -- the place of a shape's case in the enum
 abbrev pub tag : Shape → ℕ
@@ -36,7 +39,7 @@ not_rotated (RotPoly normal elevation axis start stop) k = absurd (miss (0 ∷ 1
 not_rotated (Wire radius) k = refl
 
 -- any shape but a multi-box: its effective system
-pub own_system : (s : Shape) (own : OwnSystem) (default : CoordSystem) → OneOf (0 ∷ 2 ∷ 3 ∷ 4 ∷ 5 ∷ 6 ∷ 7 ∷ 8 ∷ 9 ∷ []) (tag s) → effective_cs own default ≡ shape_cs s own default
+pub own_system : (s : Shape) (own : Option CoordSystem) (default : CoordSystem) → OneOf (0 ∷ 2 ∷ 3 ∷ 4 ∷ 5 ∷ 6 ∷ 7 ∷ 8 ∷ 9 ∷ []) (tag s) → effective_cs own default ≡ shape_cs s own default
 unfolding shape_cs
 own_system (Box start stop) own default k = refl
 own_system MultiBox own default k = absurd (miss (0 ∷ 2 ∷ 3 ∷ 4 ∷ 5 ∷ 6 ∷ 7 ∷ 8 ∷ 9 ∷ []) 1 tt k)
@@ -48,6 +51,18 @@ own_system (Polygon normal elevation) own default k = refl
 own_system (LinPoly normal elevation length) own default k = refl
 own_system (RotPoly normal elevation axis start stop) own default k = refl
 own_system (Wire radius) own default k = refl
+
+-- a primitive's own system, or the default
+pub own_or_default : (own : Option CoordSystem) (default : CoordSystem) → unwrap_or own default ≡ effective_cs own default
+unfolding effective_cs
+own_or_default None default = refl
+own_or_default (Some cs) default = refl
+
+-- the test for the cylindrical system, as the derived `==` makes it
+pub same_as_cylindrical : (cs : CoordSystem) → sameb ofCoordSystem.the_type cs Cylindrical ≡ cylindrical cs
+unfolding cylindrical
+same_as_cylindrical Cartesian = refl
+same_as_cylindrical Cylindrical = refl
 
 -- ---- the lists, by the tag
 

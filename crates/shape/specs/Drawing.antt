@@ -1,10 +1,9 @@
 -- A drawing, and docs/SCOPE.md's refusals 3, 4, 1 and 2 on it, in the order in which tessellation checks them.
-use Rattle.std.specs.Prelude.{ℕ, ◌/◌, ◌%◌, Bool, true, false, not, ◌&&◌, ◌||◌, cond, List, [], ◌∷◌, length, take, ltb, eqb, Float}
+use Rattle.std.specs.Prelude.{ℕ, ◌/◌, ◌%◌, Bool, true, false, not, ◌&&◌, ◌||◌, cond, Option, Some, None, List, [], ◌∷◌, length, take, ltb, eqb, Float}
 use Rattle.std.specs.Float.Ieee.Scale.{finite}
 use Rattle.math.specs.declared.Vec3.{Vec3}
 use Rattle.math.specs.Vec.{v_finite}
-use Rattle.refusal.specs.declared.Refusal.{Refusal}
-use Rattle.refusal.specs.declared.Refusal.TheVariants.{Accepted, NotFinite, AngleTooLarge, TooManySegments, BadList}
+use Rattle.refusal.specs.Answer.{Answer, Accepted, NotFinite, AngleTooLarge, TooManySegments, BadList}
 use Rattle.transform.specs.declared.TransformOp.{TransformOp}
 use Rattle.transform.specs.Angle.{within1000}
 use Rattle.transform.specs.Checks.{too_many_ops, ops_finite, ops_angles_within}
@@ -15,19 +14,17 @@ use Rattle.shape.specs.declared.Items.{Items}
 use Rattle.shape.specs.declared.Items.TheVariants.{NoItems, Corners, Points, Boxes}
 use Rattle.shape.specs.declared.CoordSystem.{CoordSystem}
 use Rattle.shape.specs.declared.CoordSystem.TheVariants.{Cartesian, Cylindrical}
-use Rattle.shape.specs.declared.OwnSystem.{OwnSystem}
-use Rattle.shape.specs.declared.OwnSystem.TheVariants.{Inherited, Own}
 use Rattle.shape.specs.declared.TessellationOptions.{TessellationOptions}
 
 -- ---- systems
 
--- Primitive::effective_cs
-unfoldable pub effective_cs : OwnSystem → CoordSystem → CoordSystem
-effective_cs Inherited default = default
-effective_cs (Own cs) default = cs
+-- Primitive::effective_cs: a primitive's own system, or the drawing's default
+unfoldable pub effective_cs : Option CoordSystem → CoordSystem → CoordSystem
+effective_cs None default = default
+effective_cs (Some cs) default = cs
 
 -- Primitive::shape_cs: the effective system, but for a multi-box, which is always taken in the default one
-unfoldable pub shape_cs : Shape → OwnSystem → CoordSystem → CoordSystem
+unfoldable pub shape_cs : Shape → Option CoordSystem → CoordSystem → CoordSystem
 shape_cs (Box a b) own default = effective_cs own default
 shape_cs MultiBox own default = default
 shape_cs (Sphere c r) own default = effective_cs own default
@@ -147,7 +144,7 @@ angles_bad cyl shape list degrees ops =
     not (shape_within cyl shape && list_within cyl (items_of shape) list && ops_angles_within degrees ops)
 
 -- 3, 4, 1, 2, in this order, on the shape, its list, its system, the options, and the first `count` operations
-unfoldable pub drawing_refusal : Shape → List Float → OwnSystem → CoordSystem → TessellationOptions → List TransformOp → ℕ → Bool → Refusal
+unfoldable pub drawing_refusal : Shape → List Float → Option CoordSystem → CoordSystem → TessellationOptions → List TransformOp → ℕ → Bool → Answer
 drawing_refusal shape list own default options ops count degrees =
     cond (too_many_segments options) TooManySegments
     (cond (bad_list (items_of shape) (length list) || too_many_ops count) BadList

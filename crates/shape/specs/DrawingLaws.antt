@@ -1,11 +1,11 @@
 -- What is known of a drawing that refusals 3, 4, 1 and 2 let pass. Laws of the definitions in Drawing. Assumes nothing.
-use Rattle.std.specs.Prelude.{ℕ, ◌/◌, ◌%◌, ◌<◌, ◌≤◌, ◌≡◌, refl, Bool, true, false, not, ◌&&◌, cond, List, length, get_or, take, ltb, eqb, Float}
+use Rattle.std.specs.Prelude.{ℕ, ◌/◌, ◌%◌, ◌<◌, ◌≤◌, ◌≡◌, refl, Bool, true, false, not, ◌&&◌, cond, Option, List, length, get_or, take, ltb, eqb, Float}
 use Rattle.std.proofs.Common.{sym, ◌∙◌, ap, true≢false, arith, ltb-false, eqb-true}
 use Rattle.std.specs.Float.{nan}
 use Rattle.std.specs.Float.Ieee.Scale.{finite}
 use Rattle.std.proofs.lemmas.Bool.{not-false}
 use Rattle.slice_law.specs.Bools.{or_left, or_right, and_left, and_right}
-use Rattle.refusal.specs.declared.Refusal.TheVariants.{Accepted, NotFinite, AngleTooLarge, TooManySegments, BadList}
+use Rattle.refusal.specs.Answer.{Accepted, NotFinite, AngleTooLarge, TooManySegments, BadList}
 use Rattle.refusal.specs.Accepted.{is_accepted}
 use Rattle.transform.specs.declared.TransformOp.{TransformOp}
 use Rattle.transform.specs.Ops.{most_ops}
@@ -15,13 +15,12 @@ use Rattle.slice.specs.EveryLaws.{every_at, every_all}
 use Rattle.shape.specs.declared.Shape.{Shape}
 use Rattle.shape.specs.declared.Items.TheVariants.{Corners, Points, Boxes}
 use Rattle.shape.specs.declared.CoordSystem.{CoordSystem}
-use Rattle.shape.specs.declared.OwnSystem.{OwnSystem}
 use Rattle.shape.specs.declared.TessellationOptions.{TessellationOptions}
 use Rattle.shape.specs.Drawing.{shape_cs, cylindrical, too_many_segments, items_of, bad_items, bad_list, list_of, shape_finite, shape_within, list_within}
 use Rattle.shape.specs.Drawing.{numbers_bad, angles_bad, drawing_refusal}
 
 -- a drawing that passes; the angles of points count where `shape_cs` is cylindrical
-pub record AcceptedDrawing (shape : Shape) (list : List Float) (own : OwnSystem) (default : CoordSystem) (options : TessellationOptions)
+pub record AcceptedDrawing (shape : Shape) (list : List Float) (own : Option CoordSystem) (default : CoordSystem) (options : TessellationOptions)
     (ops : List TransformOp) (count : ℕ) (degrees : Bool) : Type 0 where
   pub segments_most : options.segments ≤ 1024
   pub rings_most : options.sphere_rings ≤ 1024
@@ -49,7 +48,7 @@ passed false false false true e = absurd (true≢false (sym (ap is_accepted e)))
 passed false false false false e = record { three = refl; four = refl; one = refl; two = refl }
 
 -- no refusal 3, 4, 1 or 2: what holds of the drawing
-pub accepted : (shape : Shape) (list : List Float) (own : OwnSystem) (default : CoordSystem) (options : TessellationOptions) (ops : List TransformOp)
+pub accepted : (shape : Shape) (list : List Float) (own : Option CoordSystem) (default : CoordSystem) (options : TessellationOptions) (ops : List TransformOp)
     (count : ℕ) (degrees : Bool) → drawing_refusal shape list own default options ops count degrees ≡ Accepted
     → AcceptedDrawing shape list own default options ops count degrees
 unfolding drawing_refusal too_many_segments numbers_bad angles_bad

@@ -1,4 +1,5 @@
-// What a user draws: the shape, its coordinate system and the resolution. The specs say which drawings are refused; `shape_check` checks them.
+// What a user draws: a shape with its list, its coordinate system, the resolution and the operations. The specs say which drawings are refused;
+// `shape_check` checks them.
 #![tactic(auto)]
 
 mod lists;
@@ -9,23 +10,17 @@ pub use lists::items_of;
 use math::Vec3;
 pub use rotated::is_rot_poly;
 pub use systems::{is_cylindrical, shape_cs};
+use transform::Operations;
 
 // coords.rs: enum CoordSystem.
-#[derive(Clone, Copy)]
+#[derive(Clone, Copy, PartialEq, Eq, Debug)]
 pub enum CoordSystem {
     Cartesian,
     Cylindrical,
 }
 
-// The coordinate system of a primitive: its own, or the drawing's default.
-#[derive(Clone, Copy)]
-pub enum OwnSystem {
-    Inherited,
-    Own(CoordSystem),
-}
-
 // tessellate.rs: struct TessellationOptions.
-#[derive(Clone, Copy)]
+#[derive(Clone, Copy, PartialEq, Eq, Debug)]
 pub struct TessellationOptions {
     pub segments: usize,
     pub sphere_rings: usize,
@@ -81,10 +76,21 @@ pub enum Shape {
 }
 
 // The list that is lent beside a shape: none, the corners of an outline (2 floats each), the points of a wire (3), or boxes (6).
-#[derive(Clone, Copy)]
+#[derive(Clone, Copy, PartialEq, Eq, Debug)]
 pub enum Items {
     NoItems,
     Corners,
     Points,
     Boxes,
+}
+
+// What a user draws: a shape with the list that is lent beside it, its own system or none and the default one, the resolution, and the operations.
+#[derive(Clone, Copy)]
+pub struct Drawing<'a> {
+    pub shape: Shape,
+    pub list: &'a [f64],
+    pub own: Option<CoordSystem>,
+    pub default: CoordSystem,
+    pub options: TessellationOptions,
+    pub operations: Operations,
 }

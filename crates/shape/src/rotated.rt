@@ -5,11 +5,9 @@ ghost use Rattle.shape.specs.Rotated.{is_rot_poly};
 use crate::Shape;
 
 // Whether the shape is a rotated outline.
+#[tactic(auto, unfolding(crate::specs::Rotated::is_rot_poly), using(crate::proofs::Tags::not_rotated))]
 pub fn is_rot_poly(shape: Shape) -> bool
     ensures { result ≡ is_rot_poly shape }
 {
-    match shape {
-        Shape::RotPoly { .. } => true,
-        _ => false,
-    }
+    matches!(shape, Shape::RotPoly { .. })
 }

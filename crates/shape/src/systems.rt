@@ -2,20 +2,19 @@
 ghost use Rattle.std.specs.Prelude.{◌≡◌};
 ghost use Rattle.shape.specs.Drawing as Drawing;
 
-use crate::{CoordSystem, OwnSystem, Shape};
+use crate::{CoordSystem, Shape};
 
-// Primitive::effective_cs.
-fn effective_cs(own: OwnSystem, default: CoordSystem) -> CoordSystem
+// Primitive::effective_cs: a primitive's own system, or the drawing's default.
+#[tactic(auto, using(crate::proofs::Tags::own_or_default))]
+fn effective_cs(own: Option<CoordSystem>, default: CoordSystem) -> CoordSystem
     ensures { result ≡ Drawing.effective_cs own default }
 {
-    match own {
-        OwnSystem::Inherited => default,
-        OwnSystem::Own(cs) => cs,
-    }
+    own.unwrap_or(default)
 }
 
 // Primitive::shape_cs: the effective system, but for a multi-box, which is always taken in the default one.
-pub fn shape_cs(shape: Shape, own: OwnSystem, default: CoordSystem) -> CoordSystem
+#[tactic(auto, unfolding(crate::specs::Drawing::shape_cs), using(crate::proofs::Tags::own_system))]
+pub fn shape_cs(shape: Shape, own: Option<CoordSystem>, default: CoordSystem) -> CoordSystem
     ensures { result ≡ Drawing.shape_cs shape own default }
 {
     match shape {
@@ -25,11 +24,9 @@ pub fn shape_cs(shape: Shape, own: OwnSystem, default: CoordSystem) -> CoordSyst
 }
 
 // Whether a system is the cylindrical one.
+#[tactic(auto, using(crate::proofs::Tags::same_as_cylindrical))]
 pub fn is_cylindrical(cs: CoordSystem) -> bool
     ensures { result ≡ Drawing.cylindrical cs }
 {
-    match cs {
-        CoordSystem::Cartesian => false,
-        CoordSystem::Cylindrical => true,
-    }
+    cs == CoordSystem::Cylindrical
 }

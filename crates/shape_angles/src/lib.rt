@@ -6,7 +6,7 @@ ghost use Rattle.shape.specs.Drawing as Drawing;
 
 use math::Vec3;
 use shape::{Items, Shape};
-use transform::TransformOp;
+use transform::Operations;
 use trig::Radians;
 
 // Whether the angle of a point is within 1,000, where it is taken as cylindrical.
@@ -41,13 +41,10 @@ fn shape_within(cyl: bool, shape: Shape) -> bool
 fn points_within(list: &[f64]) -> bool
     ensures { result ≡ Drawing.points_within list.now }
 {
-    let mut i = 0;
-    while 3 <= list.len() - i {
-        let good = transform_angles::within_1000(Radians(list[i + 1]));
-        if !good {
+    for point in list.chunks_exact(3) {
+        if !transform_angles::within_1000(Radians(point[1])) {
             return false;
         }
-        i += 3;
     }
     true
 }
@@ -62,19 +59,12 @@ fn list_within(cyl: bool, items: Items, list: &[f64]) -> bool
     }
 }
 
-// Refusal 2 on the shape, its list and the first `op_count` operations.
-pub fn angles_bad(
-    cyl: bool,
-    shape: Shape,
-    list: &[f64],
-    degrees: bool,
-    ops: [TransformOp; 16],
-    op_count: usize,
-) -> bool
-    ensures { result ≡ Drawing.angles_bad cyl shape list.now degrees (take op_count ops) }
+// Refusal 2 on the shape, its list and the operations that apply.
+pub fn angles_bad(cyl: bool, shape: Shape, list: &[f64], ops: &Operations) -> bool
+    ensures { result ≡ Drawing.angles_bad cyl shape list.now ops.now.degrees (take ops.now.count ops.now.ops) }
 {
     let good = shape_within(cyl, shape)
         & list_within(cyl, shape::items_of(shape), list)
-        & transform_angles::ops_angles_within(ops, op_count, degrees);
+        & transform_angles::ops_angles_within(ops);
     !good
 }

@@ -1,17 +1,10 @@
 // TessellationOptions::arc_segments of src/tessellate.rs, and its test for a full turn.
 #![tactic(auto)]
 
-ghost use Rattle.std.specs.Prelude.{◌≡◌, ◌≤◌, max};
+ghost use Rattle.std.specs.Prelude.{◌≡◌, ◌≤◌};
 ghost use Rattle.shape_arc.specs.Arc.{counted_span, arc_share, arc_segments, is_full};
 
 use ieee::TAU;
-
-// usize::max.
-pub fn larger(a: usize, b: usize) -> usize
-    ensures { result ≡ max a b }
-{
-    if a < b { b } else { a }
-}
 
 // The span that counts: 0.0 for a NaN, else its absolute value, at most TAU.
 fn counted_span(span: f64) -> f64
@@ -29,7 +22,7 @@ fn arc_share(segments: usize, span: f64) -> f64
     requires { segments ≤ 1024 }
     ensures { result ≡ arc_share segments span }
 {
-    let full = larger(segments, 3) as f64;
+    let full = segments.max(3) as f64;
     full * counted_span(span) / TAU
 }
 
@@ -39,7 +32,7 @@ pub fn arc_segments(segments: usize, span: f64) -> usize
     requires { segments ≤ 1024 }
     ensures { result ≡ arc_segments segments span }
 {
-    larger(ieee_whole::ceil_to_usize(arc_share(segments, span)), 1)
+    ieee_whole::ceil_to_usize(arc_share(segments, span)).max(1)
 }
 
 // Whether a span is a full turn.

@@ -6,20 +6,20 @@ use mathlib.Core.List.{List}
 use lib.ListN.{length, take}
 use lib.Dec.{ltb}
 use lib.Ieee.{Float}
-use Rattle.refusal.specs.declared.Refusal.TheVariants.{Accepted, NotFinite, AngleTooLarge, TooManySegments, BadList}
+use Rattle.std.specs.Prelude.{Option}
+use Rattle.refusal.specs.Answer.{Accepted, NotFinite, AngleTooLarge, TooManySegments, BadList}
 use Rattle.transform.specs.declared.TransformOp.{TransformOp}
 use Rattle.shape.specs.declared.Shape.{Shape}
 use Rattle.shape.specs.declared.CoordSystem.{CoordSystem}
-use Rattle.shape.specs.declared.OwnSystem.{OwnSystem}
 use Rattle.shape.specs.declared.TessellationOptions.{TessellationOptions}
 use Rattle.shape.specs.Drawing.{shape_cs, cylindrical, too_many_segments, items_of, bad_list, numbers_bad, angles_bad, drawing_refusal}
 
 -- the fourth test's result
-pub angle_test : {cs : CoordSystem} {cyl b : Bool} (shape : Shape) (list : List Float) (own : OwnSystem) (default : CoordSystem) (degrees : Bool) (ops : List TransformOp)
+pub angle_test : {cs : CoordSystem} {cyl b : Bool} (shape : Shape) (list : List Float) (own : Option CoordSystem) (default : CoordSystem) (degrees : Bool) (ops : List TransformOp)
     → cs ≡ shape_cs shape own default → cyl ≡ cylindrical cs → b ≡ angles_bad cyl shape list degrees ops → b ≡ angles_bad (cylindrical (shape_cs shape own default)) shape list degrees ops
 angle_test shape list own default degrees ops e f g = g ∙ ap (λ (t : Bool). angles_bad t shape list degrees ops) (f ∙ ap cylindrical e)
 
-module _ (shape : Shape) (list : List Float) (own : OwnSystem) (default : CoordSystem) (options : TessellationOptions) (ops : List TransformOp) (count : ℕ) (degrees : Bool) where
+module _ (shape : Shape) (list : List Float) (own : Option CoordSystem) (default : CoordSystem) (options : TessellationOptions) (ops : List TransformOp) (count : ℕ) (degrees : Bool) where
   module _ {a : Bool} (ea : a ≡ too_many_segments options) where
     pub told_3 : a ≡ true → TooManySegments ≡ drawing_refusal shape list own default options ops count degrees
     unfolding drawing_refusal

@@ -4,39 +4,32 @@
 mod limits;
 
 ghost use Rattle.std.specs.Prelude.{◌≡◌};
-ghost use Rattle.shape.specs.Drawing as Drawing;
+ghost use Rattle.refusal.specs.Answer.{answer_of};
+ghost use Rattle.shape.specs.Drawing.{drawing_refusal};
 
 use refusal::Refusal;
-use shape::{CoordSystem, OwnSystem, Shape, TessellationOptions};
-use transform::TransformOp;
+use shape::Drawing;
 
-// Refusals 3, 4, 1 and 2, in this order, on the drawing and the first `op_count` operations.
-pub fn check_drawing(
-    shape: Shape,
-    list: &[f64],
-    own: OwnSystem,
-    default: CoordSystem,
-    options: TessellationOptions,
-    ops: [TransformOp; 16],
-    op_count: usize,
-    degrees: bool,
-) -> Refusal
-    ensures { result ≡ Drawing.drawing_refusal shape list.now own default options ops op_count degrees }
+// Refusals 3, 4, 1 and 2, in this order, on the drawing and the operations that count.
+pub fn check_drawing(d: &Drawing<'_>) -> Result<(), Refusal>
+    ensures { answer_of result
+        ≡ drawing_refusal d.now.shape d.now.list.now d.now.own d.now.default d.now.options
+        d.now.operations.ops d.now.operations.count d.now.operations.degrees }
 {
-    let many = limits::too_many_segments(options);
-    let bad = limits::bad_lists(shape, list.len(), op_count);
+    let many = limits::too_many_segments(d.options);
+    let bad = limits::bad_lists(d.shape, d.list.len(), d.operations.count);
     if many {
-        return Refusal::TooManySegments;
+        return Err(Refusal::TooManySegments);
     }
     if bad {
-        return Refusal::BadList;
+        return Err(Refusal::BadList);
     }
-    if shape_finite::numbers_bad(shape, list, ops, op_count) {
-        return Refusal::NotFinite;
+    if shape_finite::numbers_bad(d.shape, d.list, &d.operations) {
+        return Err(Refusal::NotFinite);
     }
-    let cyl = shape::is_cylindrical(shape::shape_cs(shape, own, default));
-    if shape_angles::angles_bad(cyl, shape, list, degrees, ops, op_count) {
-        return Refusal::AngleTooLarge;
+    let cylindrical = shape::is_cylindrical(shape::shape_cs(d.shape, d.own, d.default));
+    if shape_angles::angles_bad(cylindrical, d.shape, d.list, &d.operations) {
+        return Err(Refusal::AngleTooLarge);
     }
-    Refusal::Accepted
+    Ok(())
 }

@@ -1,4 +1,4 @@
-// A shape by the number of its kind, its directions and its numbers in the Rust's field order, as tests hold it.
+// A shape by the number of its kind, its directions and its numbers in the Rust's field order, as files of solids and tests hold it.
 #![tactic(auto)]
 
 ghost use Rattle.std.specs.Prelude.{◌≡◌};
@@ -61,6 +61,8 @@ fn with_points(kind: u8, n: &[f64; 10]) -> Shape
 }
 
 // The shape of the kind, 0 to 9 in the order of `Shape`; any other number counts as 5. Numbers and directions that a kind has no use for change nothing.
+// The number is read into Shape here, once: an enum of kinds beside it would be a second list of the same ten.
+// Not From: the kind, the directions and the numbers come apart, from C too, and would be put into a tuple for it.
 pub fn shape_of(kind: u8, norm_dir: u8, rot_axis_dir: u8, n: &[f64; 10]) -> Shape
     ensures { result ≡ shape_of kind norm_dir rot_axis_dir n.now }
 {

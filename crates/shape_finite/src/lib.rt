@@ -7,33 +7,33 @@ ghost use Rattle.slice.specs.Every.{every};
 ghost use Rattle.shape.specs.Drawing as Drawing;
 
 use shape::{Items, Shape};
-use transform::TransformOp;
+use transform::Operations;
 
 // Whether every number of the shape itself is finite.
 fn shape_finite(shape: Shape) -> bool
     ensures { result ≡ Drawing.shape_finite shape }
 {
     match shape {
-        Shape::Box { start, stop } => math::is_finite(start) & math::is_finite(stop),
+        Shape::Box { start, stop } => start.is_finite() & stop.is_finite(),
         Shape::MultiBox => true,
-        Shape::Sphere { center, radius } => math::is_finite(center) & ieee::is_finite(radius),
+        Shape::Sphere { center, radius } => center.is_finite() & ieee::is_finite(radius),
         Shape::SphericalShell {
             center,
             radius,
             shell_width,
-        } => math::is_finite(center) & ieee::is_finite(radius) & ieee::is_finite(shell_width),
+        } => center.is_finite() & ieee::is_finite(radius) & ieee::is_finite(shell_width),
         Shape::Cylinder {
             start,
             stop,
             radius,
-        } => math::is_finite(start) & math::is_finite(stop) & ieee::is_finite(radius),
+        } => start.is_finite() & stop.is_finite() & ieee::is_finite(radius),
         Shape::CylindricalShell {
             start,
             stop,
             radius,
             shell_width,
-        } => math::is_finite(start)
-            & math::is_finite(stop)
+        } => start.is_finite()
+            & stop.is_finite()
             & ieee::is_finite(radius)
             & ieee::is_finite(shell_width),
         Shape::Polygon { elevation, .. } => ieee::is_finite(elevation),
@@ -60,16 +60,16 @@ fn list_finite(items: Items, list: &[f64]) -> bool
 {
     match items {
         Items::NoItems => true,
-        _ => slice::all_finite(list, list.len()),
+        _ => slice::all_pass(list, ieee::is_finite),
     }
 }
 
-// Refusal 1 on the shape, its list and the first `op_count` operations.
-pub fn numbers_bad(shape: Shape, list: &[f64], ops: [TransformOp; 16], op_count: usize) -> bool
-    ensures { result ≡ Drawing.numbers_bad shape list.now (take op_count ops) }
+// Refusal 1 on the shape, its list and the operations that apply.
+pub fn numbers_bad(shape: Shape, list: &[f64], ops: &Operations) -> bool
+    ensures { result ≡ Drawing.numbers_bad shape list.now (take ops.now.count ops.now.ops) }
 {
     let good = shape_finite(shape)
         & list_finite(shape::items_of(shape), list)
-        & transform_check::ops_finite(ops, op_count);
+        & transform_check::ops_finite(ops);
     !good
 }

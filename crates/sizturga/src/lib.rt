@@ -9,6 +9,5 @@ ghost use Rattle.sizturga.specs.Answers.{FixtureCall};
 pub extern "C" fn sizturga_fixture(file: &[u8], out: &mut [u8]) -> u32
     ensures { FixtureCall file.now (length out.old) result out.new }
 {
-    let why = fixture::plan(file, out);
-    refusal::number(why)
+    refusal::number(fixture::plan(file, out))
 }

@@ -2,36 +2,34 @@
 // and zeros from a place on to its end.
 #![tactic(auto)]
 
-ghost use Rattle.std.specs.Prelude.{◌≡◌, ◌≤◌, length, take, ltb};
-ghost use Rattle.std.specs.Float.Ieee.{of_bits};
-ghost use Rattle.std.specs.Float.{binary64};
+ghost use Rattle.std.specs.Prelude.{◌≡◌, ◌≤◌, Bool, length, take, ltb};
 ghost use Rattle.std.specs.Float.Ieee.Scale.{finite};
 ghost use Rattle.slice.specs.Cleared.{cleared_from};
 ghost use Rattle.slice.specs.Every.{every, counted_places};
 
-// Zeros from place `from` on, in a slice of vertex or triangle numbers.
-pub fn clear_numbers(s: &mut [u32], from: usize)
-    ensures { s.new ≡ cleared_from 0 from s.old }
+// Writes `zero` in each place from `from` on.
+pub fn clear_from<T: Copy>(s: &mut [T], from: usize, zero: T)
+    ensures { s.new ≡ cleared_from zero from s.old }
 {
-    let mut i = from;
-    while i < s.len() {
-        s[i] = 0;
-        i += 1;
+    for i in from..s.len() {
+        s[i] = zero;
     }
 }
 
-// +0.0 from place `from` on, in a slice of coordinates.
-pub fn clear_floats(s: &mut [f64], from: usize)
-    ensures { s.new ≡ cleared_from (of_bits binary64 0) from s.old }
+// Whether every element passes the test. It has no early end, so that several elements are tested at once.
+pub fn all_pass<T: Copy, F: Fn(T) -> bool>(s: &[T], test: F) -> bool
+    requires { F.IsAlwaysCallable test }
+    ensures { (k : T → Bool) → ((x : T) (b : Bool) → F.post test x b → b ≡ k x) → result ≡ every k s.now }
 {
-    let mut k = from;
-    while k < s.len() {
-        s[k] = 0.0;
-        k += 1;
+    let mut ok = true;
+    for x in s {
+        ok = ok & test(*x);
     }
+    ok
 }
 
 // A number of 32 bits as one that counts places.
+// Named, for the edits wide_halved and wide_low_16_bits, which change its line: std has no usize::from of a u32.
 pub fn wide(x: u32) -> usize
     ensures { result ≡ x }
 {
@@ -39,41 +37,25 @@ pub fn wide(x: u32) -> usize
 }
 
 // The places of a slice that count, three elements each: a 32-bit number can count no more than 4,294,967,295.
+#[tactic(auto, unfolding(crate::specs::Every::counted_places))]
 pub fn counted_places(len: usize) -> usize
     ensures { result ≡ counted_places len }
 {
-    let whole = len / 3;
-    if whole < 4294967295 {
-        whole
-    } else {
-        4294967295
-    }
+    (len / 3).min(4294967295)
 }
 
-// Whether the first count numbers are below n. The loop has no early end, so that several are tested at once.
+// Whether the first count numbers are below n.
 pub fn all_below(numbers: &[u32], count: usize, n: u32) -> bool
     requires { count ≤ length numbers.now }
     ensures { result ≡ every (λ i. ltb i n) (take count numbers.now) }
 {
-    let mut ok = true;
-    let mut i = 0;
-    while i < count {
-        ok = ok & (numbers[i] < n);
-        i += 1;
-    }
-    ok
+    all_pass(&numbers[..count], |i| i < n)
 }
 
-// Whether the first count floats are finite. No early end, as above.
+// Whether the first count floats are finite.
 pub fn all_finite(floats: &[f64], count: usize) -> bool
     requires { count ≤ length floats.now }
     ensures { result ≡ every finite (take count floats.now) }
 {
-    let mut ok = true;
-    let mut i = 0;
-    while i < count {
-        ok = ok & ieee::is_finite(floats[i]);
-        i += 1;
-    }
-    ok
+    all_pass(&floats[..count], ieee::is_finite)
 }

@@ -13,18 +13,12 @@ fn is_bounded(x: f64) -> bool
     (-2.5822498780869086e120 <= x) & (x <= 2.5822498780869086e120)
 }
 
-// Whether the first count floats are. The loop has no early end, so that several are tested at once.
+// Whether the first count floats are.
 pub fn all_bounded(floats: &[f64], count: usize) -> bool
     requires { count ≤ length floats.now }
     ensures { result ≡ every is_bounded (take count floats.now) }
 {
-    let mut ok = true;
-    let mut i = 0;
-    while i < count {
-        ok = ok & is_bounded(floats[i]);
-        i += 1;
-    }
-    ok
+    slice::all_pass(&floats[..count], is_bounded)
 }
 
 // Whether the first count floats are finite. Nothing is read where `small` says that they are from -2^400 to 2^400.

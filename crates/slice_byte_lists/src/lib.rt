@@ -1,4 +1,5 @@
 // Lists of floats and of 32-bit numbers, one after the other in bytes.
+// Floats and numbers have loops of their own, to read and to write: each is one line, and a loop over both needs a closure's clauses, twice its length.
 #![tactic(auto)]
 
 ghost use Rattle.std.specs.Prelude.{◌≡◌, ◌*◌, ◌≤◌, length};
@@ -11,10 +12,8 @@ pub fn get_floats(b: &[u8], out: &mut [f64])
     requires { 8 * length out.old ≤ length b.now }
     ensures { out.new ≡ floats_of (length out.old) b.now }
 {
-    let mut i = 0;
-    while i < out.len() {
+    for i in 0..out.len() {
         out[i] = float_at(b, 8 * i);
-        i += 1;
     }
 }
 
@@ -23,10 +22,8 @@ pub fn get_words(b: &[u8], out: &mut [u32])
     requires { 4 * length out.old ≤ length b.now }
     ensures { out.new ≡ words_of (length out.old) b.now }
 {
-    let mut i = 0;
-    while i < out.len() {
+    for i in 0..out.len() {
         out[i] = word_at(b, 4 * i);
-        i += 1;
     }
 }
 
@@ -35,10 +32,8 @@ pub fn put_floats(v: &[f64], b: &mut [u8])
     requires { 8 * length v.now ≤ length b.old }
     ensures { b.new ≡ with_floats (length v.now) v.now b.old }
 {
-    let mut i = 0;
-    while i < v.len() {
+    for i in 0..v.len() {
         put_float(b, 8 * i, v[i]);
-        i += 1;
     }
 }
 
@@ -47,9 +42,7 @@ pub fn put_words(v: &[u32], b: &mut [u8])
     requires { 4 * length v.now ≤ length b.old }
     ensures { b.new ≡ with_words (length v.now) v.now b.old }
 {
-    let mut i = 0;
-    while i < v.len() {
+    for i in 0..v.len() {
         put_word(b, 4 * i, v[i]);
-        i += 1;
     }
 }

@@ -1,7 +1,7 @@
 // 32-bit numbers in bytes, written or turned round so that the first number stands last.
 #![tactic(auto)]
 
-ghost use Rattle.std.specs.Prelude.{◌≡◌, ◌++◌, map, reverse, ◌+◌, ◌-◌, ◌*◌, ◌/◌, ◌≤◌, min, length, take};
+ghost use Rattle.std.specs.Prelude.{◌≡◌, ◌++◌, map, reverse, ◌+◌, ◌-◌, ◌*◌, ◌/◌, ◌≤◌, length, take};
 ghost use Rattle.slice_byte_lists.specs.Lists.{words_of, bytes_of_words};
 ghost use Rattle.slice_byte_turn.specs.Turn.{Raised, ZeroBefore, exchanged};
 
@@ -14,11 +14,9 @@ pub fn put_words_back(v: &[u32], base: u32, b: &mut [u8])
         ≡ take (length b.old - 4 * length v.now) b.old ++ bytes_of_words (reverse (map (λ i. i + base) v.now)) }
 {
     let mut at = b.len();
-    let mut i = 0;
-    while i < v.len() {
+    for x in v {
         at -= 4;
-        put_word(b, at, v[i] + base);
-        i += 1;
+        put_word(b, at, *x + base);
     }
 }
 
@@ -33,23 +31,13 @@ fn exchange(b: &mut [u8], i: usize, j: usize)
     put_word(b, 4 * j, x);
 }
 
-// The smaller of two numbers.
-fn least(a: usize, b: usize) -> usize
-    ensures { result ≡ min a b }
-{
-    if a < b { a } else { b }
-}
-
 // Turns the order of the 32-bit numbers of b round; all but the last n of them are zero, and so stay untouched where they need not move.
 pub fn turn_words(b: &mut [u8], n: usize)
     requires { ZeroBefore b.old n }
     ensures { b.new ≡ bytes_of_words (reverse (words_of (length b.old / 4) b.old)) }
 {
     let m = b.len() / 4;
-    let pairs = least(n, m / 2);
-    let mut i = 0;
-    while i < pairs {
+    for i in 0..n.min(m / 2) {
         exchange(b, i, m - 1 - i);
-        i += 1;
     }
 }

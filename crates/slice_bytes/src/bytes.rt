@@ -2,36 +2,22 @@
 ghost use Rattle.std.specs.Prelude.{◌≡◌, ◌+◌, ◌<◌, ◌≤◌, ◌%◌, length};
 ghost use Rattle.slice_bytes.specs.Bytes.{word_at, long_at, with_word, with_long};
 
-fn wide(x: u8) -> u64
-    ensures { (result ≡ x) × (result < 256) }
-{
-    x as u64
-}
-
-fn wider(x: u32) -> u64
-    ensures { (result ≡ x) × (result < 4294967296) }
-{
-    x as u64
-}
-
 // The 32-bit number at place at.
+#[tactic(auto, unfolding(crate::specs::Bytes::word_at))]
 pub fn word_at(b: &[u8], at: usize) -> u32
     requires { at + 4 ≤ length b.now }
     ensures { result ≡ word_at b.now at }
 {
-    let w = wide(b[at])
-        + 256 * wide(b[at + 1])
-        + 65536 * wide(b[at + 2])
-        + 16777216 * wide(b[at + 3]);
-    w as u32
+    u32::from_le_bytes([b[at], b[at + 1], b[at + 2], b[at + 3]])
 }
 
 // The 64-bit number at place at.
+#[tactic(auto, unfolding(crate::specs::Bytes::long_at))]
 pub fn long_at(b: &[u8], at: usize) -> u64
     requires { at + 8 ≤ length b.now }
     ensures { result ≡ long_at b.now at }
 {
-    wider(word_at(b, at)) + 4294967296 * wider(word_at(b, at + 4))
+    u64::from(word_at(b, at)) + 4294967296 * u64::from(word_at(b, at + 4))
 }
 
 // The lowest byte of a number.
@@ -57,7 +43,7 @@ pub fn put_word(b: &mut [u8], at: usize, w: u32)
     requires { at + 4 ≤ length b.old }
     ensures { b.new ≡ with_word b.old at w }
 {
-    put_low(b, at, wider(w))
+    put_low(b, at, u64::from(w))
 }
 
 // Writes a 64-bit number at place at.

@@ -1,4 +1,5 @@
 // Text in a lent slice of bytes. Each function puts its text from place at on, as far as it fits, and answers the place after it.
+// Not write!: it would need a Write of its own over the slice and a Display for each kind of number, and say no more.
 #![tactic(auto)]
 
 ghost use Rattle.std.specs.Prelude.{◌≡◌, replicate};
@@ -21,10 +22,8 @@ pub fn put(out: &mut [u8], at: usize, b: &[u8]) -> usize
     ensures { Puts b.now (line out.old at) (line out.new result) }
 {
     let mut to = at;
-    let mut i = 0;
-    while i < b.len() {
-        to = put_byte(out, to, b[i]);
-        i += 1;
+    for x in b {
+        to = put_byte(out, to, *x);
     }
     to
 }
@@ -47,15 +46,13 @@ pub fn put_hex(out: &mut [u8], at: usize, n: u64) -> usize
     put(out, at, &digits[..k])
 }
 
-// So many spaces.
+// So many spaces. Over an iterator of bytes, for this and put together, a contract would have to say what an iterator gives, for one line less.
 fn put_spaces(out: &mut [u8], at: usize, n: usize) -> usize
     ensures { Puts (replicate n 32) (line out.old at) (line out.new result) }
 {
     let mut to = at;
-    let mut i = 0;
-    while i < n {
-        to = put_byte(out, to, 32);
-        i += 1;
+    for _ in 0..n {
+        to = put_byte(out, to, b' ');
     }
     to
 }

@@ -1,80 +1,50 @@
 // The cases of tessellate in src/tessellate.rs that are outlines.
 ghost use Rattle.std.specs.Prelude.{◌≡◌, ◌≤◌, min, length};
-ghost use Rattle.weld.specs.Rep.{held, Ready, Runs};
+ghost use Rattle.weld.specs.Rep.{Ready};
+ghost use Rattle.weld.specs.Welding.{held_by, Welds};
 ghost use Rattle.solid_spec.specs.Polygons as Polygons;
 ghost use Rattle.solid.specs.Limits.{Listed};
 ghost use Rattle.solid.specs.Soups.{outline_soup};
 
 use shape::Shape;
-use weld::Welder;
+use weld::Welding;
 
 // The axis of a direction: 3 to 255 are taken as 2.
 fn direction(n: u8) -> usize
     ensures { (result ≡ min n 2) × (result ≤ 2) }
 {
-    if n < 2 { n as usize } else { 2 }
+    usize::from(n.min(2))
 }
 
 fn weld_rot_poly(
-    vertices: &mut [f64],
-    triangles: &mut [u32],
-    work: &mut [u32],
-    w: Welder,
+    w: &mut Welding<'_>,
     normal: u8,
     axis: u8,
     list: &[f64],
     start: f64,
     stop: f64,
     segments: usize,
-) -> Welder
-    requires ready { Ready (held w vertices.old triangles.old work.old) }
+)
+    requires ready { Ready (held_by w.old) }
     requires segments_bound { (segments ≤ 1024) × (length list.now ≤ 1024) }
-    ensures { Runs (Polygons.rot_poly_soup normal axis list.now start stop segments)
-        (held w vertices.old triangles.old work.old)
-        (held result vertices.new triangles.new work.new) }
+    ensures { Welds (Polygons.rot_poly_soup normal axis list.now start stop segments) w.old w.new }
 {
-    if normal < 3 {
-        if axis < 3 {
-            if normal != axis {
-                return solid_outline::weld_rotated(
-                    vertices, triangles, work, w, axis, normal, list, start, stop, segments,
-                );
-            }
-        }
+    if normal < 3 && axis < 3 && normal != axis {
+        solid_outline::weld_rotated(w, axis, normal, list, start, stop, segments);
     }
-    w
 }
 
 // Welds an outline, and nothing of another shape.
-pub fn weld_outline(
-    vertices: &mut [f64],
-    triangles: &mut [u32],
-    work: &mut [u32],
-    w: Welder,
-    shape: Shape,
-    list: &[f64],
-    segments: usize,
-) -> Welder
-    requires ready { Ready (held w vertices.old triangles.old work.old) }
+pub fn weld_outline(w: &mut Welding<'_>, shape: Shape, list: &[f64], segments: usize)
+    requires ready { Ready (held_by w.old) }
     requires segments_bound { (segments ≤ 1024) × Listed shape list.now }
-    ensures { Runs (outline_soup shape list.now segments)
-        (held w vertices.old triangles.old work.old)
-        (held result vertices.new triangles.new work.new) }
+    ensures { Welds (outline_soup shape list.now segments) w.old w.new }
 {
     match shape {
         Shape::Polygon {
             norm_dir,
             elevation,
-        } => solid_outline::weld_extruded(
-            vertices,
-            triangles,
-            work,
-            w,
-            direction(norm_dir),
-            list,
-            elevation,
-            elevation,
-        ),
+        } => solid_outline::weld_extruded(w, direction(norm_dir), list, elevation, elevation),
         Shape::LinPoly {
             norm_dir,
             elevation,
@@ -82,15 +52,12 @@ pub fn weld_outline(
         } => {
             let end = elevation + length;
             solid_outline::weld_extruded(
-                vertices,
-                triangles,
-                work,
                 w,
                 direction(norm_dir),
                 list,
                 ieee::min(elevation, end),
                 ieee::max(elevation, end),
-            )
+            );
         }
         Shape::RotPoly {
             norm_dir,
@@ -99,9 +66,6 @@ pub fn weld_outline(
             start_angle,
             stop_angle,
         } => weld_rot_poly(
-            vertices,
-            triangles,
-            work,
             w,
             norm_dir,
             rot_axis_dir,
@@ -110,6 +74,6 @@ pub fn weld_outline(
             stop_angle,
             segments,
         ),
-        _ => w,
+        _ => {}
     }
 }

@@ -1,71 +1,47 @@
 // The cases Cylinder and CylindricalShell of tessellate in src/tessellate.rs.
 ghost use Rattle.std.specs.Prelude.{◌≤◌};
-ghost use Rattle.weld.specs.Rep.{held, Ready, Runs};
+ghost use Rattle.weld.specs.Rep.{Ready};
+ghost use Rattle.weld.specs.Welding.{held_by, Welds};
 ghost use Rattle.solid_spec.specs.Coords.{to_cartesian};
 ghost use Rattle.solid_spec.specs.Cylinder as Cylinder;
 ghost use Rattle.solid.specs.Soups.{tube_soup};
 
 use math::Vec3;
 use shape::Shape;
-use weld::Welder;
+use weld::Welding;
 
 // Welds a cylinder whose ends are given in the system of its shape.
 fn weld_between(
-    vertices: &mut [f64],
-    triangles: &mut [u32],
-    work: &mut [u32],
-    w: Welder,
+    w: &mut Welding<'_>,
     start: Vec3,
     stop: Vec3,
     inner: f64,
     outer: f64,
     cylindrical: bool,
     segments: usize,
-) -> Welder
-    requires ready { Ready (held w vertices.old triangles.old work.old) }
+)
+    requires ready { Ready (held_by w.old) }
     requires segments_bound { segments ≤ 1024 }
-    ensures { Runs (Cylinder.cylinder (to_cartesian cylindrical start) (to_cartesian cylindrical stop) inner outer segments)
-        (held w vertices.old triangles.old work.old)
-        (held result vertices.new triangles.new work.new) }
+    ensures { Welds (Cylinder.cylinder (to_cartesian cylindrical start) (to_cartesian cylindrical stop) inner outer segments)
+        w.old w.new }
 {
     let a = surface_coords::to_cartesian(start, cylindrical);
     let b = surface_coords::to_cartesian(stop, cylindrical);
-    solid_cylinder::weld_cylinder(vertices, triangles, work, w, a, b, inner, outer, segments)
+    solid_cylinder::weld_cylinder(w, a, b, inner, outer, segments);
 }
 
 // Welds a cylinder or a cylindrical shell, and nothing of another shape.
-pub fn weld_tube(
-    vertices: &mut [f64],
-    triangles: &mut [u32],
-    work: &mut [u32],
-    w: Welder,
-    shape: Shape,
-    cylindrical: bool,
-    segments: usize,
-) -> Welder
-    requires ready { Ready (held w vertices.old triangles.old work.old) }
+pub fn weld_tube(w: &mut Welding<'_>, shape: Shape, cylindrical: bool, segments: usize)
+    requires ready { Ready (held_by w.old) }
     requires segments_bound { segments ≤ 1024 }
-    ensures { Runs (tube_soup cylindrical shape segments)
-        (held w vertices.old triangles.old work.old)
-        (held result vertices.new triangles.new work.new) }
+    ensures { Welds (tube_soup cylindrical shape segments) w.old w.new }
 {
     match shape {
         Shape::Cylinder {
             start,
             stop,
             radius,
-        } => weld_between(
-            vertices,
-            triangles,
-            work,
-            w,
-            start,
-            stop,
-            0.0,
-            radius,
-            cylindrical,
-            segments,
-        ),
+        } => weld_between(w, start, stop, 0.0, radius, cylindrical, segments),
         Shape::CylindricalShell {
             start,
             stop,
@@ -74,9 +50,6 @@ pub fn weld_tube(
         } => {
             let half = shell_width / 2.0;
             weld_between(
-                vertices,
-                triangles,
-                work,
                 w,
                 start,
                 stop,
@@ -84,8 +57,8 @@ pub fn weld_tube(
                 radius + half,
                 cylindrical,
                 segments,
-            )
+            );
         }
-        _ => w,
+        _ => {}
     }
 }

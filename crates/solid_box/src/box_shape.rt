@@ -1,46 +1,35 @@
 // box_shape of src/tessellate.rs, in either coordinate system, streamed into the welder.
 ghost use Rattle.std.specs.Prelude.{◌≤◌};
-ghost use Rattle.weld.specs.Rep.{held, Ready, Runs};
+ghost use Rattle.weld.specs.Rep.{Ready};
+ghost use Rattle.weld.specs.Welding.{held_by, Welds};
 ghost use Rattle.solid_spec.specs.Boxes as Boxes;
 
-use crate::{flat, param_box};
+use crate::{ParamBox, flat, param_box};
 use math::Vec3;
 use surface_spec::Chart;
-use weld::Welder;
+use weld::Welding;
 
-pub fn weld_box_shape(
-    vertices: &mut [f64],
-    triangles: &mut [u32],
-    work: &mut [u32],
-    w: Welder,
-    a: Vec3,
-    b: Vec3,
-    cylindrical: bool,
-    segments: usize,
-) -> Welder
-    requires ready { Ready (held w vertices.old triangles.old work.old) }
+pub fn weld_box_shape(w: &mut Welding<'_>, a: Vec3, b: Vec3, cylindrical: bool, segments: usize)
+    requires ready { Ready (held_by w.old) }
     requires segments_bound { segments ≤ 1024 }
-    ensures { Runs (Boxes.box_shape a b cylindrical segments)
-        (held w vertices.old triangles.old work.old)
-        (held result vertices.new triangles.new work.new) }
+    ensures { Welds (Boxes.box_shape a b cylindrical segments) w.old w.new }
 {
-    let lo = math::min(a, b);
-    let hi = math::max(a, b);
+    let lo = a.min(b);
+    let hi = a.max(b);
     if !cylindrical {
-        return flat::weld_flat_box(vertices, triangles, work, w, lo, hi);
+        flat::weld_flat_box(w, lo, hi);
+        return;
     }
-    let full = shape_arc::is_full(hi.y - lo.y);
-    let high = surface_box::turned_to(full, lo, hi);
+    let turns = shape_arc::is_full(hi.y - lo.y);
+    let high = surface_box::turned_to(turns, lo, hi);
     let n = shape_arc::arc_segments(segments, high.y - lo.y);
-    param_box::weld_param_box(
-        vertices,
-        triangles,
-        work,
-        w,
+    let chart = Chart::Cylindrical;
+    let x = ParamBox {
         lo,
-        high,
+        hi: high,
         n,
-        full,
-        Chart::Cylindrical,
-    )
+        turns,
+        chart,
+    };
+    param_box::weld_param_box(w, &x);
 }

@@ -1,91 +1,37 @@
 // Soup::param_box of src/tessellate.rs with an angle as its middle axis. The angle's sines and cosines lie in a local table.
-ghost use Rattle.std.specs.Prelude.{◌+◌, ◌*◌, ◌≤◌, ◌<◌, length};
-ghost use Rattle.weld.specs.Rep.{held, Ready, Runs};
-ghost use Rattle.surface_spec.specs.Surface.{mapped};
-ghost use Rattle.solid_box.specs.Box.{middle_parted};
+ghost use Rattle.std.specs.Prelude.{◌≤◌, ◌<◌};
+ghost use Rattle.weld.specs.Rep.{Ready};
+ghost use Rattle.weld.specs.Welding.{held_by, Welds};
+ghost use Rattle.solid_box.specs.Box.{box_of};
 
-use crate::faces;
-use math::Vec3;
+use crate::{ParamBox, faces};
 use surface::Turns;
-use surface_spec::Chart;
-use weld::Welder;
+use trig_spec::SinCos;
+use weld::Welding;
 
-// The box, with its table and its guesses in lent slices.
-fn weld_tabled(
-    vertices: &mut [f64],
-    triangles: &mut [u32],
-    work: &mut [u32],
-    w: Welder,
-    lo: Vec3,
-    hi: Vec3,
-    n: usize,
-    turns: bool,
-    chart: Chart,
-    table: &mut [f64],
-    numbers: &mut [usize],
-) -> Welder
-    requires ready { Ready (held w vertices.old triangles.old work.old) }
-    requires n_bound { (n ≤ 1024) × (2 * n + 2 ≤ length table.old) × (1 < length numbers.old) × (n < length numbers.old) }
-    ensures { Runs (middle_parted lo hi n turns (mapped chart))
-        (held w vertices.old triangles.old work.old)
-        (held result vertices.new triangles.new work.new) }
+// The box, with a table of POINTS entries and places for guesses at the numbers of as many points.
+fn weld_sized<const POINTS: usize>(w: &mut Welding<'_>, x: &ParamBox)
+    requires ready { Ready (held_by w.old) }
+    requires n_bound { (x.now.n ≤ 1024) × (1 < POINTS) × (x.now.n < POINTS) × (POINTS ≤ 1025) }
+    ensures { Welds (box_of x.now) w.old w.new }
 {
-    let l = surface_box::line_of(lo, hi, n, turns, 1);
-    surface::fill_entries(Turns::OnLine { l }, n, table);
-    faces::weld_faces(
-        vertices, triangles, work, w, lo, hi, n, turns, chart, table, numbers,
-    )
+    let mut table = [SinCos { sin: 0.0, cos: 0.0 }; POINTS];
+    let mut numbers = [0usize; POINTS];
+    let l = surface_box::line_of(x.lo, x.hi, x.n, x.turns, 1);
+    surface::fill_entries(Turns::OnLine { l }, x.n, &mut table);
+    faces::weld_faces(w, x, &table, &mut numbers);
 }
 
 // Soup::param_box with n parts on the middle axis, an angle that is periodic where turns says so, and 1 part on the others. Few parts
 // have small arrays, so that clearing them takes little time.
-pub fn weld_param_box(
-    vertices: &mut [f64],
-    triangles: &mut [u32],
-    work: &mut [u32],
-    w: Welder,
-    lo: Vec3,
-    hi: Vec3,
-    n: usize,
-    turns: bool,
-    chart: Chart,
-) -> Welder
-    requires ready { Ready (held w vertices.old triangles.old work.old) }
-    requires n_bound { n ≤ 1024 }
-    ensures { Runs (middle_parted lo hi n turns (mapped chart))
-        (held w vertices.old triangles.old work.old)
-        (held result vertices.new triangles.new work.new) }
+pub fn weld_param_box(w: &mut Welding<'_>, x: &ParamBox)
+    requires ready { Ready (held_by w.old) }
+    requires n_bound { x.now.n ≤ 1024 }
+    ensures { Welds (box_of x.now) w.old w.new }
 {
-    if n <= 64 {
-        let mut table = [0.0; 130];
-        let mut numbers = [0usize; 65];
-        return weld_tabled(
-            vertices,
-            triangles,
-            work,
-            w,
-            lo,
-            hi,
-            n,
-            turns,
-            chart,
-            &mut table,
-            &mut numbers,
-        );
+    if x.n <= 64 {
+        weld_sized::<65>(w, x);
+    } else {
+        weld_sized::<1025>(w, x);
     }
-    let mut table = [0.0; 2050];
-    let mut numbers = [0usize; 1025];
-    weld_tabled(
-        vertices,
-        triangles,
-        work,
-        w,
-        lo,
-        hi,
-        n,
-        turns,
-        chart,
-        &mut table,
-        &mut numbers,
-    )
 }

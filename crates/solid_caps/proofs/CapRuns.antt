@@ -7,17 +7,22 @@ use native.Mathlib.Omega.{arith}
 use lib.ListN.{length, get_or, take, drop}
 use lib.Seq.{take-append_seam}
 use lib.Ieee.{Float}
+use Rattle.weld.specs.declared.Welding.{Welding}
+use Rattle.weld.specs.Rep.{Ready}
+use Rattle.weld.specs.Welding.{held_by, Welds, welds_none, welds_then, welds_as}
 use Rattle.math.specs.declared.Vec3.{Vec3}
 use Rattle.mesh_balance_spec.specs.Soup.{Tri, map_tri, flip_tri}
 use Rattle.mesh_balance_spec.specs.Buffer.{tris}
-use Rattle.weld.specs.Rep.{Held, Ready, Runs}
-use Rattle.weld.specs.Runs.{runs_none, runs_then, runs_as}
 use Rattle.outline_triangulate.specs.Triangulate.{Clipping, triangulate_polygon}
 use Rattle.outline_triangulate.specs.declared.Cut.{Cut}
 use Rattle.outline_triangulate.specs.Slices.{CutAs}
 use Rattle.solid_spec.specs.Grid.{Soup}
 use Rattle.solid_spec.specs.Polygons.{cap_triangles}
+use Rattle.std.specs.Prelude.{Option}
+use Rattle.std.specs.Option.{is_some, unwrap_or}
+use Rattle.solid_grid.specs.declared.sheet.Sheet.{Sheet}
 use Rattle.solid_caps.specs.Caps.{cap_of, caps_of}
+use Rattle.solid_caps.specs.Ends.{points_at}
 
 -- 3 * t, by three successors
 abbrev thrice : ℕ → ℕ
@@ -52,8 +57,8 @@ module _ (both : Bool) (near far : ℕ → Vec3) where
   caps_append [] ys = refl
   caps_append (x ∷ xs) ys = ap (λ (r : Soup). cap_of both near far x ++ r) (caps_append xs ys) ∙ sym (append_assoc (cap_of both near far x) (caps_of both near far xs) (caps_of both near far ys))
 
-  pub caps_none : (l : List ℕ) (h : Held) → Ready h → Runs (caps_of both near far (tris (take (3 * 0) l))) h h
-  caps_none l h R = runs_none h R
+  pub caps_none : (l : List ℕ) (h : Welding) → Ready (held_by h) → Welds (caps_of both near far (tris (take (3 * 0) l))) h h
+  caps_none l h R = welds_none h R
 
   more_is : (t : ℕ) (l : List ℕ) → 3 * t + 3 ≤ length l → caps_of both near far (tris (take (3 * (t + 1)) l))
       ≡ caps_of both near far (tris (take (3 * t) l)) ++ cap_of both near far (get_or l (3 * t) 0, get_or l (3 * t + 1) 0, get_or l (3 * t + 2) 0)
@@ -71,35 +76,35 @@ module _ (both : Bool) (near far : ℕ → Vec3) where
       ∙ ap (λ (k : ℕ). caps_of both near far (tris (take (3 * t) l)) ++ cap_of both near far (T (3 * t) k (suc (suc (thrice t))))) c
       ∙ ap (λ (k : ℕ). caps_of both near far (tris (take (3 * t) l)) ++ cap_of both near far (T (3 * t) (3 * t + 1) k)) d
 
-  pub caps_more : (t : ℕ) (l : List ℕ) (a b c : ℕ) (h k r : Held) → t < length l / 3 → a ≡ get_or l (3 * t) 0 → b ≡ get_or l (3 * t + 1) 0 → c ≡ get_or l (3 * t + 2) 0
-      → Runs (caps_of both near far (tris (take (3 * t) l))) h k → Runs (cap_of both near far (a, b, c)) k r → Runs (caps_of both near far (tris (take (3 * (t + 1)) l))) h r
+  pub caps_more : (t : ℕ) (l : List ℕ) (a b c : ℕ) (h k r : Welding) → t < length l / 3 → a ≡ get_or l (3 * t) 0 → b ≡ get_or l (3 * t + 1) 0 → c ≡ get_or l (3 * t + 2) 0
+      → Welds (caps_of both near far (tris (take (3 * t) l))) h k → Welds (cap_of both near far (a, b, c)) k r → Welds (caps_of both near far (tris (take (3 * (t + 1)) l))) h r
   caps_more t l a b c h k r q x y z R Q =
-      runs_as
+      welds_as
       (ap (λ (i : ℕ). caps_of both near far (tris (take (3 * t) l)) ++ cap_of both near far (i, b, c)) x
       ∙ ap (λ (i : ℕ). caps_of both near far (tris (take (3 * t) l)) ++ cap_of both near far (get_or l (3 * t) 0, i, c)) y
       ∙ ap (λ (i : ℕ). caps_of both near far (tris (take (3 * t) l)) ++ cap_of both near far (get_or l (3 * t) 0, get_or l (3 * t + 1) 0, i)) z
-      ∙ sym (more_is t l (omega arith))) (runs_then (caps_of both near far (tris (take (3 * t) l))) (cap_of both near far (a, b, c)) h k r R Q)
+      ∙ sym (more_is t l (omega arith))) (welds_then (caps_of both near far (tris (take (3 * t) l))) (cap_of both near far (a, b, c)) h k r R Q)
 
-  pub caps_all : (t : ℕ) (l : List ℕ) (h k : Held) → t ≤ length l / 3 → length l / 3 ≤ t → Runs (caps_of both near far (tris (take (3 * t) l))) h k → Runs (caps_of both near far (tris l)) h k
+  pub caps_all : (t : ℕ) (l : List ℕ) (h k : Welding) → t ≤ length l / 3 → length l / 3 ≤ t → Welds (caps_of both near far (tris (take (3 * t) l))) h k → Welds (caps_of both near far (tris l)) h k
   caps_all t l h k p q R =
-      runs_as (ap (λ (n : ℕ). caps_of both near far (tris (take n l))) (sym (thrice_is t)) ∙ ap (caps_of both near far) (whole t l (omega (arith, thrice_is t)) (omega (arith, thrice_is t)))) R
+      welds_as (ap (λ (n : ℕ). caps_of both near far (tris (take n l))) (sym (thrice_is t)) ∙ ap (caps_of both near far) (whole t l (omega (arith, thrice_is t)) (omega (arith, thrice_is t)))) R
 
 -- one cap triangle by its points
-pub cap_one : (both : Bool) (near far : ℕ → Vec3) (a b c : ℕ) (x y z : Vec3) (h k : Held) → both ≡ false → x ≡ near a → y ≡ near b → z ≡ near c
-    → Runs ((x, y, z) ∷ []) h k → Runs (cap_of both near far (a, b, c)) h k
+pub cap_one : (both : Bool) (near far : ℕ → Vec3) (a b c : ℕ) (x y z : Vec3) (h k : Welding) → both ≡ false → x ≡ near a → y ≡ near b → z ≡ near c
+    → Welds ((x, y, z) ∷ []) h k → Welds (cap_of both near far (a, b, c)) h k
 cap_one both near far a b c x y z h k e p q r R =
-    runs_as
+    welds_as
     (ap (λ (v : Vec3). (v, y, z) ∷ []) p ∙ ap (λ (v : Vec3). (near a, v, z) ∷ []) q ∙ ap (λ (v : Vec3). (near a, near b, v) ∷ []) r
     ∙ ap (λ (t : Bool). cap_of t near far (a, b, c)) (sym e)) R
 
-pub cap_two : (both : Bool) (near far : ℕ → Vec3) (a b c : ℕ) (x y z u v w : Vec3) (h k r : Held) → both ≡ true → x ≡ near a → y ≡ near b → z ≡ near c
-    → u ≡ far a → v ≡ far c → w ≡ far b → Runs ((x, y, z) ∷ []) h k → Runs ((u, v, w) ∷ []) k r → Runs (cap_of both near far (a, b, c)) h r
+pub cap_two : (both : Bool) (near far : ℕ → Vec3) (a b c : ℕ) (x y z u v w : Vec3) (h k r : Welding) → both ≡ true → x ≡ near a → y ≡ near b → z ≡ near c
+    → u ≡ far a → v ≡ far c → w ≡ far b → Welds ((x, y, z) ∷ []) h k → Welds ((u, v, w) ∷ []) k r → Welds (cap_of both near far (a, b, c)) h r
 cap_two both near far a b c x y z u v w h k r e p q s p' q' s' R Q =
-    runs_as
+    welds_as
     (ap (λ (o : Vec3). (o, y, z) ∷ (u, v, w) ∷ []) p ∙ ap (λ (o : Vec3). (near a, o, z) ∷ (u, v, w) ∷ []) q ∙ ap (λ (o : Vec3). (near a, near b, o) ∷ (u, v, w) ∷ []) s
     ∙ ap (λ (o : Vec3). (near a, near b, near c) ∷ (o, v, w) ∷ []) p' ∙ ap (λ (o : Vec3). (near a, near b, near c) ∷ (far a, o, w) ∷ []) q'
     ∙ ap (λ (o : Vec3). (near a, near b, near c) ∷ (far a, far c, o) ∷ []) s'
-    ∙ ap (λ (t : Bool). cap_of t near far (a, b, c)) (sym e)) (runs_then ((x, y, z) ∷ []) ((u, v, w) ∷ []) h k r R Q)
+    ∙ ap (λ (t : Bool). cap_of t near far (a, b, c)) (sym e)) (welds_then ((x, y, z) ∷ []) ((u, v, w) ∷ []) h k r R Q)
 
 -- the cap triangles at the start of the slice that `triangulate_polygon` left
 pub caps_front : (s : Clipping) (r : Cut) (b a : List ℕ) → CutAs s r b a → take (3 * r.triangles) a ≡ s.triangles
@@ -107,7 +112,12 @@ caps_front s r b a G =
     ap (λ (n : ℕ). take n a) (sym G.count) ∙ ap (take (length s.triangles)) G.slice ∙ take-append_seam s.triangles (drop (length s.triangles) b)
 
 -- the triangles that the clipper gave
-pub ends_run : (both : Bool) (near far : ℕ → Vec3) (p : List Float) (l : List ℕ) (h k : Held) → l ≡ (triangulate_polygon p).triangles
-    → Runs (caps_of both near far (tris l)) h k → Runs (caps_of both near far (cap_triangles p)) h k
+pub ends_run : (both : Bool) (near far : ℕ → Vec3) (p : List Float) (l : List ℕ) (h k : Welding) → l ≡ (triangulate_polygon p).triangles
+    → Welds (caps_of both near far (tris l)) h k → Welds (caps_of both near far (cap_triangles p)) h k
 unfolding cap_triangles
-ends_run both near far p l h k e R = runs_as (ap (λ (x : List ℕ). caps_of both near far (tris x)) e) R
+ends_run both near far p l h k e R = welds_as (ap (λ (x : List ℕ). caps_of both near far (tris x)) e) R
+
+-- the far column by cases
+pub cap_as : (x : Sheet) (near : ℕ → Vec3) (t : Tri ℕ) (o p : Option ℕ) (h k : Welding) → o ≡ p → Welds (cap_of (is_some p) near (points_at x (unwrap_or p 0)) t) h k
+    → Welds (cap_of (is_some o) near (points_at x (unwrap_or o 0)) t) h k
+cap_as x near t o p h k e R = welds_as (ap (λ (q : Option ℕ). cap_of (is_some q) near (points_at x (unwrap_or q 0)) t) (sym e)) R

@@ -1,13 +1,6 @@
 -- The caps of an outline as `extruded_polygon` and `rotpoly` of src/tessellate.rs push them: a triangle at one end, or at both. Definitions only.
-use Rattle.std.specs.Prelude.{Bool, true, false, List, [], ◌∷◌, ◌++◌, ℕ, Float}
+use Rattle.std.specs.Prelude.{Bool, true, false, List, [], ◌∷◌, ◌++◌, ℕ}
 use Rattle.mesh_balance_spec.specs.Soup.{Tri, map_tri, flip_tri}
-use Rattle.surface_spec.specs.declared.Surface.{Surface}
-use Rattle.surface.specs.Within.{Within}
-use Rattle.surface.specs.Turns.{Tabled}
-
--- what the code asks of a surface to compute the points of a cap, which lie at j
-abbrev pub CapsWithin : List Float → Surface → List Float → List Float → ℕ → Type 0
-CapsWithin p s rows cols j = (i : ℕ) → Within p s i j × Tabled s rows cols i j
 
 module _ {P : Type 0} where
   -- a triangle at the one end, and where both says so turned round at the other

@@ -1,2 +1,3 @@
 -- What the contracts of `solid_caps` cite.
 pub mod Caps
+pub mod Ends

@@ -1,164 +1,93 @@
 // The caps of extruded_polygon and rotpoly of src/tessellate.rs, streamed into the welder. Their triangles are in a local array.
-ghost use Rattle.std.specs.Prelude.{◌≡◌, ◌*◌, ◌/◌, ◌≤◌, length};
+ghost use Rattle.std.specs.Prelude.{◌≡◌, ◌*◌, ◌/◌, ◌≤◌, length, is_some};
+ghost use Rattle.std.specs.Option.{unwrap_or};
 ghost use Rattle.mesh_balance_spec.specs.Buffer.{tris};
-ghost use Rattle.weld.specs.Rep.{held, Ready, Runs};
-ghost use Rattle.surface_spec.specs.Surface.{surface_at};
+ghost use Rattle.weld.specs.Rep.{Ready};
+ghost use Rattle.weld.specs.Welding.{held_by, Welds};
 ghost use Rattle.solid_spec.specs.Polygons as Polygons;
-ghost use Rattle.solid_caps.specs.Caps.{CapsWithin, cap_of, caps_of};
+ghost use Rattle.solid_caps.specs.Caps.{cap_of, caps_of};
+ghost use Rattle.solid_caps.specs.Ends.{EndsWithin, points_at};
 
-use surface_spec::Surface;
-use weld::Welder;
+use solid_grid::Sheet;
+use weld::Welding;
 
-// A cap triangle at the one end, and where both says so turned round at the other end.
+// A cap triangle in the column `near`, and turned round in the column `far`, if there is one.
 fn weld_cap(
-    vertices: &mut [f64],
-    triangles: &mut [u32],
-    work: &mut [u32],
-    w: Welder,
-    s: Surface,
-    corners: &[f64],
-    rows: &[f64],
-    cols: &[f64],
-    both: bool,
+    w: &mut Welding<'_>,
+    x: &Sheet<'_>,
     near: usize,
-    far: usize,
+    far: Option<usize>,
     a: usize,
     b: usize,
     c: usize,
-) -> Welder
-    requires ready { Ready (held w vertices.old triangles.old work.old) }
-    requires caps_within { CapsWithin corners.now s rows.now cols.now near × CapsWithin corners.now s rows.now cols.now far }
-    ensures { Runs (cap_of both (λ i. surface_at corners.now s i near) (λ i. surface_at corners.now s i far) (a, b, c))
-        (held w vertices.old triangles.old work.old)
-        (held result vertices.new triangles.new work.new) }
+)
+    requires ready { Ready (held_by w.old) }
+    requires ends_within { EndsWithin x.now near far }
+    ensures { Welds (cap_of (is_some far) (points_at x.now near) (points_at x.now (unwrap_or far 0)) (a, b, c)) w.old w.new }
 {
-    let an = surface::surface_point(s, corners, rows, cols, a, near);
-    let bn = surface::surface_point(s, corners, rows, cols, b, near);
-    let cn = surface::surface_point(s, corners, rows, cols, c, near);
-    let u = weld_triangle::weld_triangle(vertices, triangles, work, w, an, bn, cn);
-    if both {
-        let af = surface::surface_point(s, corners, rows, cols, a, far);
-        let cf = surface::surface_point(s, corners, rows, cols, c, far);
-        let bf = surface::surface_point(s, corners, rows, cols, b, far);
-        return weld_triangle::weld_triangle(vertices, triangles, work, u, af, cf, bf);
+    let an = x.point(a, near);
+    let bn = x.point(b, near);
+    let cn = x.point(c, near);
+    weld_triangle::weld_triangle(w, an, bn, cn);
+    match far {
+        Some(far) => {
+            let af = x.point(a, far);
+            let cf = x.point(c, far);
+            let bf = x.point(b, far);
+            weld_triangle::weld_triangle(w, af, cf, bf);
+        }
+        None => {}
     }
-    u
-}
-
-fn wide(x: u32) -> usize
-    ensures { result ≡ x }
-{
-    x as usize
 }
 
 // The cap triangles, three corner numbers each.
-fn weld_caps(
-    vertices: &mut [f64],
-    triangles: &mut [u32],
-    work: &mut [u32],
-    w: Welder,
-    s: Surface,
-    corners: &[f64],
-    rows: &[f64],
-    cols: &[f64],
-    caps: &[u32],
-    both: bool,
-    near: usize,
-    far: usize,
-) -> Welder
-    requires ready { Ready (held w vertices.old triangles.old work.old) }
-    requires caps_within { CapsWithin corners.now s rows.now cols.now near × CapsWithin corners.now s rows.now cols.now far }
-    ensures { Runs
-        (caps_of both (λ i. surface_at corners.now s i near) (λ i. surface_at corners.now s i far) (tris caps.now))
-        (held w vertices.old triangles.old work.old)
-        (held result vertices.new triangles.new work.new) }
+fn weld_caps(w: &mut Welding<'_>, x: &Sheet<'_>, caps: &[u32], near: usize, far: Option<usize>)
+    requires ready { Ready (held_by w.old) }
+    requires ends_within { EndsWithin x.now near far }
+    ensures { Welds (caps_of (is_some far) (points_at x.now near) (points_at x.now (unwrap_or far 0)) (tris caps.now)) w.old w.new }
 {
-    let mut st = w;
     let n = caps.len() / 3;
-    let mut t = 0;
-    while t < n {
+    for t in 0..n {
         let k = 3 * t;
-        let a = wide(caps[k]);
-        let b = wide(caps[k + 1]);
-        let c = wide(caps[k + 2]);
-        st = weld_cap(
-            vertices, triangles, work, st, s, corners, rows, cols, both, near, far, a, b, c,
+        weld_cap(
+            w,
+            x,
+            near,
+            far,
+            caps[k] as usize,
+            caps[k + 1] as usize,
+            caps[k + 2] as usize,
         );
-        t += 1;
     }
-    st
 }
 
-// The caps of the prepared corners p: at the one end, and where both says so turned round at the other end. Their triangles go into caps.
-fn weld_ends_by(
-    vertices: &mut [f64],
-    triangles: &mut [u32],
-    work: &mut [u32],
-    w: Welder,
-    s: Surface,
-    p: &[f64],
-    rows: &[f64],
-    cols: &[f64],
-    caps: &mut [u32],
-    both: bool,
+// The caps of a sheet over an outline's prepared corners, whose triangles fit NUMBERS numbers.
+fn weld_sized<const NUMBERS: usize>(
+    w: &mut Welding<'_>,
+    x: &Sheet<'_>,
     near: usize,
-    far: usize,
-) -> Welder
-    requires ready { Ready (held w vertices.old triangles.old work.old) }
-    requires p_len_bound { (length p.now ≤ 1024) × CapsWithin p.now s rows.now cols.now near × CapsWithin p.now s rows.now cols.now far
-        × (3 * (length p.now / 2) ≤ length caps.old) }
-    ensures { Runs
-        (caps_of both (λ i. surface_at p.now s i near) (λ i. surface_at p.now s i far) (Polygons.cap_triangles p.now))
-        (held w vertices.old triangles.old work.old)
-        (held result vertices.new triangles.new work.new) }
+    far: Option<usize>,
+)
+    requires ready { Ready (held_by w.old) }
+    requires p_len_bound { (length x.now.corners.now ≤ 1024) × EndsWithin x.now near far × (3 * (length x.now.corners.now / 2) ≤ NUMBERS)
+        × (NUMBERS ≤ 1536) }
+    ensures { Welds (caps_of (is_some far) (points_at x.now near) (points_at x.now (unwrap_or far 0)) (Polygons.cap_triangles x.now.corners.now)) w.old w.new }
 {
-    let cut = outline_triangulate::triangulate_polygon(p, caps);
+    let mut caps = [0u32; NUMBERS];
+    let cut = outline_triangulate::triangulate_polygon(x.corners, &mut caps);
     let m = 3 * cut.triangles;
-    weld_caps(
-        vertices,
-        triangles,
-        work,
-        w,
-        s,
-        p,
-        rows,
-        cols,
-        &caps[..m],
-        both,
-        near,
-        far,
-    )
+    weld_caps(w, x, &caps[..m], near, far);
 }
 
-// The same. The caps of at most 64 corners go into a small array, which is cleared in less time.
-pub fn weld_ends(
-    vertices: &mut [f64],
-    triangles: &mut [u32],
-    work: &mut [u32],
-    w: Welder,
-    s: Surface,
-    p: &[f64],
-    rows: &[f64],
-    cols: &[f64],
-    both: bool,
-    near: usize,
-    far: usize,
-) -> Welder
-    requires ready { Ready (held w vertices.old triangles.old work.old) }
-    requires p_len_bound { (length p.now ≤ 1024) × CapsWithin p.now s rows.now cols.now near × CapsWithin p.now s rows.now cols.now far }
-    ensures { Runs
-        (caps_of both (λ i. surface_at p.now s i near) (λ i. surface_at p.now s i far) (Polygons.cap_triangles p.now))
-        (held w vertices.old triangles.old work.old)
-        (held result vertices.new triangles.new work.new) }
+// The same for all outlines. The caps of at most 64 corners go into a small array, which is cleared in less time.
+pub fn weld_ends(w: &mut Welding<'_>, x: &Sheet<'_>, near: usize, far: Option<usize>)
+    requires ready { Ready (held_by w.old) }
+    requires p_len_bound { (length x.now.corners.now ≤ 1024) × EndsWithin x.now near far }
+    ensures { Welds (caps_of (is_some far) (points_at x.now near) (points_at x.now (unwrap_or far 0)) (Polygons.cap_triangles x.now.corners.now)) w.old w.new }
 {
-    if p.len() <= 128 {
-        let mut caps = [0u32; 192];
-        return weld_ends_by(
-            vertices, triangles, work, w, s, p, rows, cols, &mut caps, both, near, far,
-        );
+    if x.corners.len() <= 128 {
+        weld_sized::<192>(w, x, near, far);
+    } else {
+        weld_sized::<1536>(w, x, near, far);
     }
-    let mut caps = [0u32; 1536];
-    weld_ends_by(
-        vertices, triangles, work, w, s, p, rows, cols, &mut caps, both, near, far,
-    )
 }

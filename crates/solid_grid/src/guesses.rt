@@ -8,14 +8,7 @@ use math::Vec3;
 pub fn same_or(p: Vec3, q: Vec3, n: usize, other: usize) -> usize
     ensures { result ≡ cond (same_point p q) n other }
 {
-    if p.x == q.x {
-        if p.y == q.y {
-            if p.z == q.z {
-                return n;
-            }
-        }
-    }
-    other
+    if p == q { n } else { other }
 }
 
 // The guess at the number of c, the last corner of a cell: that of the cell's b or d, or of the row's first point, where c equals it, or else
@@ -45,10 +38,9 @@ pub fn last_corner(
 pub fn onward(last: usize, n: usize, none: usize) -> usize
     ensures { result ≡ cond (ltb last n && ltb n 4294967296) (n + (n - last)) none }
 {
-    if last < n {
-        if n < 4294967296 {
-            return n + (n - last);
-        }
+    if last < n && n < 4294967296 {
+        n + (n - last)
+    } else {
+        none
     }
-    none
 }

@@ -3,5 +3,7 @@
 
 mod grid;
 mod guesses;
+mod sheet;
 
 pub use grid::weld_grid;
+pub use sheet::Sheet;

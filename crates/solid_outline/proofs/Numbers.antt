@@ -11,8 +11,7 @@ use borrow.Author.Tests.{ltb-false}
 use Rattle.mesh_balance_spec.specs.Soup.{Tri}
 use Rattle.mesh_balance_spec.specs.Buffer.{tris}
 use Rattle.outline.specs.Corners.{point}
-use Rattle.outline_ears.specs.declared.Found.{Found}
-use Rattle.outline_ears.specs.declared.Found.TheVariants.{At, Nothing}
+use Rattle.std.specs.Prelude.{Option, None, Some}
 use Rattle.outline_triangle.specs.Triangle.{cross, tolerance}
 use Rattle.outline_ears.specs.Ears.{ip, inx, counting, first_ear, first_flat}
 use Rattle.outline_remaining.specs.Without.{without}
@@ -92,10 +91,10 @@ module _ (n : ℕ) (some : 0 < n) where
   unfolding fanned
   fanned_low s p = record { idx = tt; triangles = below_append s.triangles (fan s.idx) p.triangles (fan_below s.idx p.idx) }
 
-  found_low : (f : Found) (g : ℕ → Clipping) (s : Clipping) → ((k : ℕ) → Low (g k)) → Low s → Low (by_found f g s)
+  found_low : (f : Option ℕ) (g : ℕ → Clipping) (s : Clipping) → ((k : ℕ) → Low (g k)) → Low s → Low (by_found f g s)
   unfolding by_found
-  found_low (At k) g s p q = p k
-  found_low Nothing g s p q = q
+  found_low (Some k) g s p q = p k
+  found_low None g s p q = q
 
   pick_low : (b : Bool) (s t : Clipping) → Low s → Low t → Low (cond b s t)
   pick_low true s t p q = p

@@ -9,6 +9,9 @@ use borrow.Author.Tests.{lt-ltb, le-ltb, eq-eqb, ne_eqb}
 use lib.Dec.{ltb, eqb}
 use lib.ListN.{length, length-append, length-take}
 use lib.Ieee.{Float, binary64, add, sub, ne, lt, of_bits}
+use Rattle.weld.specs.declared.Welding.{Welding}
+use Rattle.weld.specs.Rep.{Ready}
+use Rattle.weld.specs.Welding.{held_by, Welds, welds_none, welds_then, welds_as}
 use Rattle.ieee.specs.Number.{absolute, tau}
 use Rattle.trig_spec.specs.Trig.{sin_cos}
 use Rattle.math.specs.declared.Vec3.{Vec3}
@@ -24,8 +27,6 @@ use Rattle.outline.proofs.Copies.{length_reversed, length_swapped}
 use Rattle.surface.specs.Within.{ExtrudedWithin, RotatedWithin}
 use Rattle.shape_arc.specs.ArcLaws.{arc_segments_some}
 use Rattle.shape_arc.proofs.ArcLawsHeld.{arc_segments_few}
-use Rattle.weld.specs.Rep.{Held, Ready, Runs}
-use Rattle.weld.specs.Runs.{runs_none, runs_then, runs_as}
 use Rattle.surface_spec.specs.declared.Surface.TheVariants.{Extruded, Rotated}
 use Rattle.shape_arc.specs.Arc.{arc_segments, is_full}
 use Rattle.surface_spec.specs.declared.Surface.{Surface}
@@ -35,7 +36,12 @@ use Rattle.solid_spec.specs.Outline.{height}
 use Rattle.solid_spec.specs.Polygons.{cap_triangles, extruded_polygon, radial_axis, swaps, rotpoly}
 use Rattle.surface_spec.specs.Surface.{surface_at}
 use Rattle.surface_spec.proofs.SurfaceGrids.{extruded_surface, rotated_surface}
+use Rattle.std.specs.Prelude.{Option}
+use Rattle.std.specs.Prelude.{Some}
+use Rattle.std.specs.Option.{unwrap_or}
+use Rattle.solid_grid.specs.declared.sheet.Sheet.{Sheet}
 use Rattle.solid_caps.specs.Caps.{caps_of}
+use Rattle.solid_caps.specs.Ends.{CapsWithin}
 use Rattle.solid_outline.specs.Turned.{turn_span, turn_of}
 use Rattle.solid_outline.proofs.Numbers.{BelowAll, caps_below}
 
@@ -91,6 +97,10 @@ rotated_within p segments n j span l h e k =
       last = k;
     }
 
+-- the column of the other end
+pub caps_at : (x : Sheet) (n j : ℕ) → Some n ≡ Some j → CapsWithin x n → CapsWithin x j
+caps_at x n j e C = subst (λ (o : Option ℕ). CapsWithin x (unwrap_or o n)) e C
+
 -- triangles of corner numbers see only points below the number of corners
 module _ (n : ℕ) (f f' g g' : ℕ → Vec3) (p : (i : ℕ) → i < n → f i ≡ f' i) (q : (i : ℕ) → i < n → g i ≡ g' i) where
   tri_cong : (f f' : ℕ → Vec3) → ((i : ℕ) → i < n → f i ≡ f' i) → (t : Tri ℕ) → t.0 < n → t.1 < n → t.2 < n → map_tri f t ≡ map_tri f' t
@@ -129,32 +139,30 @@ module _ (n : ℕ) (p : List Float) (lo hi : Float) where
       ap (λ (t : Bool). cond t [] (cond (ne hi lo) (caps (λ i. corner_at n p i hi) (λ i. corner_at n p i lo) ts ++ extruded_sides n p lo hi) (map (map_tri (λ i. corner_at n p i hi)) ts))) x
       ∙ ap (λ (t : Bool). cond b [] (cond t (caps (λ i. corner_at n p i hi) (λ i. corner_at n p i lo) ts ++ extruded_sides n p lo hi) (map (map_tri (λ i. corner_at n p i hi)) ts))) y
 
-  pub extruded_none : (ts : List (Tri ℕ)) (h : Held) → Ready h → length p / 2 < 3 → Runs (extruded_from n p ts lo hi) h h
-  extruded_none ts h R l = runs_as (sym (extruded_is ts true (ne hi lo) (lt-ltb (length p / 2) 3 l) refl)) (runs_none h R)
+  pub extruded_none : (ts : List (Tri ℕ)) (h : Welding) → Ready (held_by h) → length p / 2 < 3 → Welds (extruded_from n p ts lo hi) h h
+  extruded_none ts h R l = welds_as (sym (extruded_is ts true (ne hi lo) (lt-ltb (length p / 2) 3 l) refl)) (welds_none h R)
 
-  pub extruded_both : (h k r : Held) → 3 ≤ length p / 2 → ne hi lo ≡ true
-      → Runs (caps_of (ne hi lo) (λ i. surface_at p (Extruded n (length p / 2) lo hi) i 1) (λ i. surface_at p (Extruded n (length p / 2) lo hi) i 0) (cap_triangles p)) h k
-      → Runs (grid (length p / 2) 1 false (surface_at p (Extruded n (length p / 2) lo hi))) k r → Runs (extruded_from n p (cap_triangles p) lo hi) h r
+  pub extruded_both : (h k r : Welding) → 3 ≤ length p / 2 → ne hi lo ≡ true
+      → Welds (caps_of true (λ i. surface_at p (Extruded n (length p / 2) lo hi) i 1) (λ i. surface_at p (Extruded n (length p / 2) lo hi) i 0) (cap_triangles p)) h k
+      → Welds (grid (length p / 2) 1 false (surface_at p (Extruded n (length p / 2) lo hi))) k r → Welds (extruded_from n p (cap_triangles p) lo hi) h r
   extruded_both h k r m d R Q =
       let c : Soup = caps (λ i. corner_at n p i hi) (λ i. corner_at n p i lo) (cap_triangles p) in
-      let x : caps_of (ne hi lo) (λ i. extruded_at i 1) (λ i. extruded_at i 0) (cap_triangles p) ≡ c
-      = ap (λ (b : Bool). caps_of b (λ i. extruded_at i 1) (λ i. extruded_at i 0) (cap_triangles p)) d
-      ∙ both_cong (length p / 2) (λ i. extruded_at i 1) (λ i. corner_at n p i hi) (λ i. extruded_at i 0) (λ i. corner_at n p i lo) top bottom (cap_triangles p) (caps_below p m) in
-      runs_as (sym (extruded_is (cap_triangles p) false true (le-ltb (length p / 2) 3 m) d))
-      (runs_then c (extruded_sides n p lo hi) h k r (runs_as x R) (runs_as (sym (extruded_surface p n lo hi)) Q))
+      let x : caps_of true (λ i. extruded_at i 1) (λ i. extruded_at i 0) (cap_triangles p) ≡ c
+      = both_cong (length p / 2) (λ i. extruded_at i 1) (λ i. corner_at n p i hi) (λ i. extruded_at i 0) (λ i. corner_at n p i lo) top bottom (cap_triangles p) (caps_below p m) in
+      welds_as (sym (extruded_is (cap_triangles p) false true (le-ltb (length p / 2) 3 m) d))
+      (welds_then c (extruded_sides n p lo hi) h k r (welds_as x R) (welds_as (sym (extruded_surface p n lo hi)) Q))
 
-  pub extruded_flat : (h k : Held) → 3 ≤ length p / 2 → ne hi lo ≡ false
-      → Runs (caps_of (ne hi lo) (λ i. surface_at p (Extruded n (length p / 2) lo hi) i 1) (λ i. surface_at p (Extruded n (length p / 2) lo hi) i 0) (cap_triangles p)) h k
-      → Runs (extruded_from n p (cap_triangles p) lo hi) h k
+  pub extruded_flat : (h k : Welding) → 3 ≤ length p / 2 → ne hi lo ≡ false
+      → Welds (caps_of false (λ i. surface_at p (Extruded n (length p / 2) lo hi) i 1) (λ i. surface_at p (Extruded n (length p / 2) lo hi) i 0) (cap_triangles p)) h k
+      → Welds (extruded_from n p (cap_triangles p) lo hi) h k
   extruded_flat h k m d R =
-      runs_as
-      (ap (λ (b : Bool). caps_of b (λ i. extruded_at i 1) (λ i. extruded_at i 0) (cap_triangles p)) d
-      ∙ one_cong (length p / 2) (λ i. extruded_at i 1) (λ i. corner_at n p i hi) (λ i. extruded_at i 0) (λ i. corner_at n p i lo) top bottom (cap_triangles p) (caps_below p m)
+      welds_as
+      (one_cong (length p / 2) (λ i. extruded_at i 1) (λ i. corner_at n p i hi) (λ i. extruded_at i 0) (λ i. corner_at n p i lo) top bottom (cap_triangles p) (caps_below p m)
       ∙ sym (extruded_is (cap_triangles p) false false (le-ltb (length p / 2) 3 m) d)) R
 
-pub polygon_runs : (n : ℕ) (v p : List Float) (lo hi : Float) (h k : Held) → p ≡ ccw_polygon v → Runs (extruded_from n p (cap_triangles p) lo hi) h k → Runs (extruded_polygon n v lo hi) h k
+pub polygon_runs : (n : ℕ) (v p : List Float) (lo hi : Float) (h k : Welding) → p ≡ ccw_polygon v → Welds (extruded_from n p (cap_triangles p) lo hi) h k → Welds (extruded_polygon n v lo hi) h k
 unfolding extruded_polygon
-polygon_runs n v p lo hi h k e R = runs_as (ap (λ (x : List Float). extruded_from n x (cap_triangles x) lo hi) e) R
+polygon_runs n v p lo hi h k e R = welds_as (ap (λ (x : List Float). extruded_from n x (cap_triangles x) lo hi) e) R
 
 module _ (a q : ℕ) (p : List Float) (start stop : Float) (segments : ℕ) where
   abbrev spanned : Float
@@ -168,9 +176,9 @@ module _ (a q : ℕ) (p : List Float) (start stop : Float) (segments : ℕ) wher
       ∙ ap (λ (t : Bool). cond b [] (turned_from a q p (cap_triangles p) start spanned t (arc_segments segments (cond t tau spanned)))) x
       ∙ ap (λ (t : Bool). cond t [] (turned_from a q p (cap_triangles p) start spanned (is_full (absolute spanned)) (arc_segments segments (cond (is_full (absolute spanned)) tau spanned)))) (sym z)
 
-  pub rotated_none : (h : Held) → Ready h → length p / 2 < 3 → Runs (rotated_from a q p (cap_triangles p) start stop segments) h h
-  rotated_none h R l = runs_as (rotated_is (is_full (absolute spanned)) true (arc_segments segments (turn_span (is_full (absolute spanned)) spanned)) refl refl (lt-ltb (length p /
-      2) 3 l)) (runs_none h R)
+  pub rotated_none : (h : Welding) → Ready (held_by h) → length p / 2 < 3 → Welds (rotated_from a q p (cap_triangles p) start stop segments) h h
+  rotated_none h R l = welds_as (rotated_is (is_full (absolute spanned)) true (arc_segments segments (turn_span (is_full (absolute spanned)) spanned)) refl refl (lt-ltb (length p /
+      2) 3 l)) (welds_none h R)
 
   spun_at : (full : Bool) (n i j : ℕ) → i < length p / 2 → surface_at p (Rotated a q (length p / 2) full start spanned n) i j ≡ turned_at a q p start spanned full n i j
   unfolding surface_at
@@ -185,9 +193,9 @@ module _ (a q : ℕ) (p : List Float) (start stop : Float) (segments : ℕ) wher
       (both_cong (length p / 2) (λ i. s i 0) (λ i. turned_at a q p start spanned full n i 0) (λ i. s i n) (λ i. turned_at a q p start spanned full n i n)
       (λ i o. spun_at full n i 0 o) (λ i o. spun_at full n i n o) (cap_triangles p) (caps_below p m))
 
-  pub rotated_runs : (full : Bool) (n : ℕ) (h k : Held) → 3 ≤ length p / 2 → full ≡ is_full (absolute spanned) → n ≡ arc_segments segments (turn_span full spanned)
-      → Runs (turn_of p (Rotated a q (length p / 2) full start spanned n) (length p / 2) n full) h k → Runs (rotated_from a q p (cap_triangles p) start stop segments) h k
-  rotated_runs full n h k m x y R = runs_as (turned_is full n m ∙ rotated_is full false n x y (le-ltb (length p / 2) 3 m)) R
+  pub rotated_runs : (full : Bool) (n : ℕ) (h k : Welding) → 3 ≤ length p / 2 → full ≡ is_full (absolute spanned) → n ≡ arc_segments segments (turn_span full spanned)
+      → Welds (turn_of p (Rotated a q (length p / 2) full start spanned n) (length p / 2) n full) h k → Welds (rotated_from a q p (cap_triangles p) start stop segments) h k
+  rotated_runs full n h k m x y R = welds_as (turned_is full n m ∙ rotated_is full false n x y (le-ltb (length p / 2) 3 m)) R
 
 -- the sides and, where the turn is not full, the ends
 module _ (p : List Float) (s : Surface) (len n : ℕ) (full : Bool) where
@@ -197,18 +205,18 @@ module _ (p : List Float) (s : Surface) (len n : ℕ) (full : Bool) where
   abbrev ends : Soup
   ends = caps_of true (λ i. surface_at p s i 0) (λ i. surface_at p s i n) (cap_triangles p)
 
-  pub turn_full : (h k : Held) → full ≡ true → Runs (grid len n true (surface_at p s)) h k → Runs (turn_of p s len n full) h k
-  turn_full h k e R = runs_as (sym (append-nil sides) ∙ ap (λ (b : Bool). sides ++ cond b [] ends) (sym e)) R
+  pub turn_full : (h k : Welding) → full ≡ true → Welds (grid len n true (surface_at p s)) h k → Welds (turn_of p s len n full) h k
+  turn_full h k e R = welds_as (sym (append-nil sides) ∙ ap (λ (b : Bool). sides ++ cond b [] ends) (sym e)) R
 
-  pub turn_part : (h k l : Held) → full ≡ false → Runs (grid len n true (surface_at p s)) h k
-      → Runs (caps_of true (λ i. surface_at p s i 0) (λ i. surface_at p s i n) (cap_triangles p)) k l → Runs (turn_of p s len n full) h l
-  turn_part h k l e R Q = runs_as (ap (λ (b : Bool). sides ++ cond b [] ends) (sym e)) (runs_then sides ends h k l R Q)
+  pub turn_part : (h k l : Welding) → full ≡ false → Welds (grid len n true (surface_at p s)) h k
+      → Welds (caps_of true (λ i. surface_at p s i 0) (λ i. surface_at p s i n) (cap_triangles p)) k l → Welds (turn_of p s len n full) h l
+  turn_part h k l e R Q = welds_as (ap (λ (b : Bool). sides ++ cond b [] ends) (sym e)) (welds_then sides ends h k l R Q)
 
-pub rotpoly_runs : (a q normal : ℕ) (swap : Bool) (v p : List Float) (start stop : Float) (segments : ℕ) (h k : Held) → q ≡ radial_axis a normal → swap ≡ swaps a normal
-    → p ≡ prepared swap v → Runs (rotated_from a q p (cap_triangles p) start stop segments) h k → Runs (rotpoly a normal v start stop segments) h k
+pub rotpoly_runs : (a q normal : ℕ) (swap : Bool) (v p : List Float) (start stop : Float) (segments : ℕ) (h k : Welding) → q ≡ radial_axis a normal → swap ≡ swaps a normal
+    → p ≡ prepared swap v → Welds (rotated_from a q p (cap_triangles p) start stop segments) h k → Welds (rotpoly a normal v start stop segments) h k
 unfolding rotpoly prepared
 rotpoly_runs a q normal swap v p start stop segments h k x y z R =
-    runs_as
+    welds_as
     (ap (λ (r : ℕ). rotated_from a r p (cap_triangles p) start stop segments) x
     ∙ ap (λ (r : List Float). rotated_from a (radial_axis a normal) r (cap_triangles r) start stop segments) z
     ∙ ap (λ (b : Bool). rotated_from a (radial_axis a normal) (prepared b v) (cap_triangles (prepared b v)) start stop segments) y) R

@@ -5,23 +5,23 @@ use Rattle.surface_spec.specs.declared.Surface.{Surface}
 use Rattle.surface_spec.specs.Surface.{surface_at}
 use Rattle.solid_spec.specs.Grid.{Soup, grid}
 use Rattle.solid_spec.specs.Polygons.{cap_triangles}
-use Rattle.surface.specs.Within.{Within}
-use Rattle.surface.specs.Turns.{Tabled}
-use Rattle.solid_caps.specs.Caps.{CapsWithin, caps_of}
+use Rattle.solid_grid.specs.declared.sheet.Sheet.{Sheet}
+use Rattle.solid_grid.specs.Sheet.{SheetWithin}
+use Rattle.solid_caps.specs.Caps.{caps_of}
+use Rattle.solid_caps.specs.Ends.{CapsWithin}
 
 -- the span of which `rotpoly` counts the segments: `if full { TAU } else { span }`
 unfoldable pub turn_span : Bool → Float → Float
 turn_span full span = cond full tau span
 
--- what the code asks of a surface of len corners and n steps to weld its sides and its ends
-pub record TurnWithin (p : List Float) (s : Surface) (rows cols : List Float) (len n : ℕ) : Type 0 where
-  pub corners : length p ≤ 1024
+-- what the code asks of a sheet of len corners and n steps to weld its sides and its ends
+pub record TurnWithin (x : Sheet) (len n : ℕ) : Type 0 where
+  pub corners : length x.corners.now ≤ 1024
   pub few : len ≤ 1024
   pub steps : n ≤ 1024
-  pub within : Within p s len n
-  pub tabled : Tabled s rows cols len n
-  pub near : CapsWithin p s rows cols 0
-  pub far : CapsWithin p s rows cols n
+  pub within : SheetWithin x len n
+  pub near : CapsWithin x 0
+  pub far : CapsWithin x n
 
 -- `rotpoly` of a surface: its sides, and its ends where the turn is not full
 abbrev pub turn_of : List Float → Surface → ℕ → ℕ → Bool → Soup

@@ -1,106 +1,67 @@
 // extruded_polygon and rotpoly of src/tessellate.rs, streamed into the welder. The prepared corners are in local arrays.
 ghost use Rattle.std.specs.Prelude.{◌≡◌, ◌+◌, ◌≤◌, ◌<◌, length};
-ghost use Rattle.weld.specs.Rep.{held, Ready, Runs};
+ghost use Rattle.weld.specs.Rep.{Ready};
+ghost use Rattle.weld.specs.Welding.{held_by, Welds};
 ghost use Rattle.solid_spec.specs.Outline as Outline;
 ghost use Rattle.solid_spec.specs.Polygons as Polygons;
 ghost use Rattle.solid_outline.specs.Turned.{turn_span, TurnWithin, turn_of};
 
 use ieee::TAU;
+use solid_grid::Sheet;
 use surface::Turns;
 use surface_spec::Surface;
-use weld::Welder;
+use trig_spec::SinCos;
+use weld::Welding;
 
 // extruded_polygon from the prepared corners on.
-fn weld_extruded_from(
-    vertices: &mut [f64],
-    triangles: &mut [u32],
-    work: &mut [u32],
-    w: Welder,
-    n: usize,
-    p: &[f64],
-    lo: f64,
-    hi: f64,
-) -> Welder
-    requires ready { Ready (held w vertices.old triangles.old work.old) }
+fn weld_extruded_from(w: &mut Welding<'_>, n: usize, p: &[f64], lo: f64, hi: f64)
+    requires ready { Ready (held_by w.old) }
     requires n_bound { (n < 3) × (length p.now ≤ 1024) }
-    ensures { Runs (Outline.extruded_from n p.now (Polygons.cap_triangles p.now) lo hi)
-        (held w vertices.old triangles.old work.old)
-        (held result vertices.new triangles.new work.new) }
+    ensures { Welds (Outline.extruded_from n p.now (Polygons.cap_triangles p.now) lo hi) w.old w.new }
 {
     let len = p.len() / 2;
     if len < 3 {
-        return w;
+        return;
     }
     let s = Surface::Extruded { n, len, lo, hi };
-    let none = [0.0; 2];
-    let both = hi != lo;
-    let u = solid_caps::weld_ends(vertices, triangles, work, w, s, p, &none, &none, both, 1, 0);
-    if both {
+    let x = Sheet {
+        s,
+        corners: p,
+        rows: &[],
+        cols: &[],
+    };
+    if hi != lo {
+        solid_caps::weld_ends(w, &x, 1, Some(0));
         let mut numbers = [0usize; 2];
-        return solid_grid::weld_grid(
-            vertices,
-            triangles,
-            work,
-            u,
-            s,
-            p,
-            &none,
-            &none,
-            &mut numbers,
-            len,
-            1,
-            false,
-        );
+        solid_grid::weld_grid(w, &x, &mut numbers, len, 1, false);
+    } else {
+        solid_caps::weld_ends(w, &x, 1, None);
     }
-    u
 }
 
-// extruded_polygon. The prepared corners go into corners.
-fn weld_extruded_by(
-    vertices: &mut [f64],
-    triangles: &mut [u32],
-    work: &mut [u32],
-    w: Welder,
-    n: usize,
-    list: &[f64],
-    lo: f64,
-    hi: f64,
-    corners: &mut [f64],
-) -> Welder
-    requires ready { Ready (held w vertices.old triangles.old work.old) }
-    requires n_bound { (n < 3) × (length list.now ≤ 1024) × (length list.now ≤ length corners.old) }
-    ensures { Runs (Polygons.extruded_polygon n list.now lo hi)
-        (held w vertices.old triangles.old work.old)
-        (held result vertices.new triangles.new work.new) }
+// extruded_polygon of an outline whose prepared corners fit FLOATS floats.
+fn weld_sized<const FLOATS: usize>(w: &mut Welding<'_>, n: usize, list: &[f64], lo: f64, hi: f64)
+    requires ready { Ready (held_by w.old) }
+    requires n_bound { (n < 3) × (length list.now ≤ 1024) × (length list.now ≤ FLOATS) × (FLOATS ≤ 1024) }
+    ensures { Welds (Polygons.extruded_polygon n list.now lo hi) w.old w.new }
 {
-    let len = outline_winding::ccw_polygon(list, corners);
+    let mut corners = [0.0; FLOATS];
+    let len = outline_winding::ccw_polygon(list, &mut corners);
     let m = 2 * len;
-    weld_extruded_from(vertices, triangles, work, w, n, &corners[..m], lo, hi)
+    weld_extruded_from(w, n, &corners[..m], lo, hi);
 }
 
 // extruded_polygon. At most 64 corners go into a small array, which is cleared in less time.
-pub fn weld_extruded(
-    vertices: &mut [f64],
-    triangles: &mut [u32],
-    work: &mut [u32],
-    w: Welder,
-    n: usize,
-    list: &[f64],
-    lo: f64,
-    hi: f64,
-) -> Welder
-    requires ready { Ready (held w vertices.old triangles.old work.old) }
+pub fn weld_extruded(w: &mut Welding<'_>, n: usize, list: &[f64], lo: f64, hi: f64)
+    requires ready { Ready (held_by w.old) }
     requires n_bound { (n < 3) × (length list.now ≤ 1024) }
-    ensures { Runs (Polygons.extruded_polygon n list.now lo hi)
-        (held w vertices.old triangles.old work.old)
-        (held result vertices.new triangles.new work.new) }
+    ensures { Welds (Polygons.extruded_polygon n list.now lo hi) w.old w.new }
 {
     if list.len() <= 128 {
-        let mut corners = [0.0; 128];
-        return weld_extruded_by(vertices, triangles, work, w, n, list, lo, hi, &mut corners);
+        weld_sized::<128>(w, n, list, lo, hi);
+    } else {
+        weld_sized::<1024>(w, n, list, lo, hi);
     }
-    let mut corners = [0.0; 1024];
-    weld_extruded_by(vertices, triangles, work, w, n, list, lo, hi, &mut corners)
 }
 
 // The span of which the arc's segments are counted.
@@ -111,68 +72,35 @@ fn turn_span(full: bool, span: f64) -> f64
 }
 
 // The sides of a rotated outline, and its ends where the turn is not full.
-fn weld_turned(
-    vertices: &mut [f64],
-    triangles: &mut [u32],
-    work: &mut [u32],
-    w: Welder,
-    s: Surface,
-    p: &[f64],
-    rows: &[f64],
-    cols: &[f64],
-    len: usize,
-    n: usize,
-    full: bool,
-) -> Welder
-    requires ready { Ready (held w vertices.old triangles.old work.old) }
-    requires turn_within { TurnWithin p.now s rows.now cols.now len n }
-    ensures { Runs (turn_of p.now s len n full)
-        (held w vertices.old triangles.old work.old)
-        (held result vertices.new triangles.new work.new) }
+fn weld_turned(w: &mut Welding<'_>, x: &Sheet<'_>, len: usize, n: usize, full: bool)
+    requires ready { Ready (held_by w.old) }
+    requires turn_within { TurnWithin x.now len n }
+    ensures { Welds (turn_of x.now.corners.now x.now.s len n full) w.old w.new }
 {
     let mut numbers = [0usize; 1025];
-    let u = solid_grid::weld_grid(
-        vertices,
-        triangles,
-        work,
-        w,
-        s,
-        p,
-        rows,
-        cols,
-        &mut numbers,
-        len,
-        n,
-        true,
-    );
-    if full {
-        return u;
+    solid_grid::weld_grid(w, x, &mut numbers, len, n, true);
+    if !full {
+        solid_caps::weld_ends(w, x, 0, Some(n));
     }
-    solid_caps::weld_ends(vertices, triangles, work, u, s, p, rows, cols, true, 0, n)
 }
 
 // rotpoly from the prepared corners on.
 fn weld_rotated_from(
-    vertices: &mut [f64],
-    triangles: &mut [u32],
-    work: &mut [u32],
-    w: Welder,
+    w: &mut Welding<'_>,
     a: usize,
     q: usize,
     p: &[f64],
     start: f64,
     stop: f64,
     segments: usize,
-) -> Welder
-    requires ready { Ready (held w vertices.old triangles.old work.old) }
+)
+    requires ready { Ready (held_by w.old) }
     requires segments_bound { (segments ≤ 1024) × (length p.now ≤ 1024) }
-    ensures { Runs (Outline.rotated_from a q p.now (Polygons.cap_triangles p.now) start stop segments)
-        (held w vertices.old triangles.old work.old)
-        (held result vertices.new triangles.new work.new) }
+    ensures { Welds (Outline.rotated_from a q p.now (Polygons.cap_triangles p.now) start stop segments) w.old w.new }
 {
     let len = p.len() / 2;
     if len < 3 {
-        return w;
+        return;
     }
     let span = stop - start;
     let full = shape_arc::is_full(ieee::abs(span));
@@ -186,18 +114,21 @@ fn weld_rotated_from(
         span,
         n,
     };
-    let none = [0.0; 2];
-    let mut cols = [0.0; 2050];
+    let mut cols = [SinCos { sin: 0.0, cos: 0.0 }; 1025];
     let t = Turns::Angles {
         full,
         start,
         span,
         n,
     };
-    surface::fill_turns(t, n, &mut cols);
-    weld_turned(
-        vertices, triangles, work, w, s, p, &none, &cols, len, n, full,
-    )
+    surface::fill_entries(t, n, &mut cols);
+    let x = Sheet {
+        s,
+        corners: p,
+        rows: &[],
+        cols: &cols,
+    };
+    weld_turned(w, &x, len, n, full);
 }
 
 // Whether the corners are swapped to (radial, axial): unless the plane's first axis is the radial one.
@@ -205,28 +136,21 @@ fn swaps(a: u8, normal: u8, q: usize) -> bool
     requires { q ≡ Polygons.radial_axis a normal }
     ensures { result ≡ Polygons.swaps a normal }
 {
-    let axes = outline_winding::plane_axes(normal);
-    let u = axes.u;
-    if u == q { false } else { true }
+    outline_winding::plane_axes(normal).u != q
 }
 
 pub fn weld_rotated(
-    vertices: &mut [f64],
-    triangles: &mut [u32],
-    work: &mut [u32],
-    w: Welder,
+    w: &mut Welding<'_>,
     a: u8,
     normal: u8,
     list: &[f64],
     start: f64,
     stop: f64,
     segments: usize,
-) -> Welder
-    requires ready { Ready (held w vertices.old triangles.old work.old) }
+)
+    requires ready { Ready (held_by w.old) }
     requires segments_bound { (segments ≤ 1024) × (length list.now ≤ 1024) × (a + normal ≤ 3) }
-    ensures { Runs (Polygons.rotpoly a normal list.now start stop segments)
-        (held w vertices.old triangles.old work.old)
-        (held result vertices.new triangles.new work.new) }
+    ensures { Welds (Polygons.rotpoly a normal list.now start stop segments) w.old w.new }
 {
     let mut corners = [0.0; 1024];
     let axis = a as usize;
@@ -234,16 +158,5 @@ pub fn weld_rotated(
     let swap = swaps(a, normal, q);
     let len = outline_winding::prepare(list, swap, &mut corners);
     let m = 2 * len;
-    weld_rotated_from(
-        vertices,
-        triangles,
-        work,
-        w,
-        axis,
-        q,
-        &corners[..m],
-        start,
-        stop,
-        segments,
-    )
+    weld_rotated_from(w, axis, q, &corners[..m], start, stop, segments);
 }

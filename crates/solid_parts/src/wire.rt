@@ -1,14 +1,15 @@
 // The case Wire of tessellate in src/tessellate.rs: each tube and each sphere is welded by itself.
-ghost use Rattle.std.specs.Prelude.{◌≡◌, false, [], ◌∷◌, ◌+◌, ◌-◌, ◌*◌, ◌/◌, ◌≤◌, ◌<◌, length};
+ghost use Rattle.std.specs.Prelude.{◌≡◌, false, [], ◌∷◌, ◌+◌, ◌*◌, ◌≤◌, length};
 ghost use Rattle.ieee.specs.Number.{plus_zero};
-ghost use Rattle.weld.specs.Rep.{held, Ready};
+ghost use Rattle.weld.specs.Rep.{Ready};
+ghost use Rattle.weld.specs.Welding.{held_by, WeldsParts};
 ghost use Rattle.solid_spec.specs.Sphere.{sphere};
 ghost use Rattle.solid_spec.specs.Cylinder.{cylinder};
 ghost use Rattle.solid_spec.specs.Wire.{wire_point, wire_tubes, wire_joints, wire_parts};
-ghost use Rattle.weld.specs.Parts.{PartsRun};
 
 use math::Vec3;
-use weld::Welder;
+use shape::TessellationOptions;
+use weld::Welding;
 
 // Point i of a wire, converted.
 fn wire_point(list: &[f64], i: usize, cylindrical: bool) -> Vec3
@@ -20,163 +21,88 @@ fn wire_point(list: &[f64], i: usize, cylindrical: bool) -> Vec3
 
 // The tube from point i to the next is a part.
 fn weld_tube_part(
-    vertices: &mut [f64],
-    triangles: &mut [u32],
-    work: &mut [u32],
-    w: Welder,
+    w: &mut Welding<'_>,
     list: &[f64],
     i: usize,
     cylindrical: bool,
     r: f64,
     segments: usize,
-) -> Welder
-    requires ready { Ready (held w vertices.old triangles.old work.old) }
+)
+    requires ready { Ready (held_by w.old) }
     requires segments_bound { (segments ≤ 1024) × (3 * i + 6 ≤ length list.now) }
-    ensures { PartsRun
+    ensures { WeldsParts
         (cylinder (wire_point cylindrical list.now i) (wire_point cylindrical list.now (i + 1)) plus_zero r segments ∷ [])
-        (held w vertices.old triangles.old work.old)
-        (held result vertices.new triangles.new work.new) }
+        w.old w.new }
 {
     let a = wire_point(list, i, cylindrical);
     let b = wire_point(list, i + 1, cylindrical);
-    let tube = solid_cylinder::weld_cylinder(vertices, triangles, work, w, a, b, 0.0, r, segments);
-    let part = weld::new_part(tube);
-    part
+    solid_cylinder::weld_cylinder(w, a, b, 0.0, r, segments);
+    weld::new_part(w);
 }
 
 // The sphere at point i is a part.
 fn weld_joint_part(
-    vertices: &mut [f64],
-    triangles: &mut [u32],
-    work: &mut [u32],
-    w: Welder,
+    w: &mut Welding<'_>,
     list: &[f64],
     i: usize,
     cylindrical: bool,
     r: f64,
-    segments: usize,
-    rings: usize,
-) -> Welder
-    requires ready { Ready (held w vertices.old triangles.old work.old) }
-    requires segments_bound { (segments ≤ 1024) × (rings ≤ 1024) × (3 * i + 3 ≤ length list.now) }
-    ensures { PartsRun (sphere (wire_point cylindrical list.now i) r segments rings false ∷ [])
-        (held w vertices.old triangles.old work.old)
-        (held result vertices.new triangles.new work.new) }
+    options: TessellationOptions,
+)
+    requires ready { Ready (held_by w.old) }
+    requires segments_bound { (options.segments ≤ 1024) × (options.sphere_rings ≤ 1024) × (3 * i + 3 ≤ length list.now) }
+    ensures { WeldsParts
+        (sphere (wire_point cylindrical list.now i) r options.segments options.sphere_rings false ∷ []) w.old w.new }
 {
     let c = wire_point(list, i, cylindrical);
-    let joint = solid_sphere::weld_sphere(
-        vertices, triangles, work, w, c, r, segments, rings, false,
-    );
-    let part = weld::new_part(joint);
-    part
+    solid_sphere::weld_sphere(w, c, r, options, false);
+    weld::new_part(w);
 }
 
-// The tubes of a wire.
-fn weld_tubes(
-    vertices: &mut [f64],
-    triangles: &mut [u32],
-    work: &mut [u32],
-    w: Welder,
-    list: &[f64],
-    cylindrical: bool,
-    r: f64,
-    segments: usize,
-) -> Welder
-    requires ready { Ready (held w vertices.old triangles.old work.old) }
+// The tubes of a wire: one from each point but the last.
+// A loop of one line, as in weld_joints and weld_multi_box: one over a closure would need the parts of each as its clause.
+fn weld_tubes(w: &mut Welding<'_>, list: &[f64], cylindrical: bool, r: f64, segments: usize)
+    requires ready { Ready (held_by w.old) }
     requires segments_bound { segments ≤ 1024 }
-    ensures { PartsRun (wire_tubes cylindrical list.now r segments)
-        (held w vertices.old triangles.old work.old)
-        (held result vertices.new triangles.new work.new) }
+    ensures { WeldsParts (wire_tubes cylindrical list.now r segments) w.old w.new }
 {
-    let mut st = w;
     let n = list.len() / 3;
-    let mut i = 0;
-    while i + 1 < n {
-        st = weld_tube_part(
-            vertices,
-            triangles,
-            work,
-            st,
-            list,
-            i,
-            cylindrical,
-            r,
-            segments,
-        );
-        i += 1;
+    for i in 1..n {
+        weld_tube_part(w, list, i - 1, cylindrical, r, segments);
     }
-    st
 }
 
 // The spheres at the inner points of a wire.
 fn weld_joints(
-    vertices: &mut [f64],
-    triangles: &mut [u32],
-    work: &mut [u32],
-    w: Welder,
+    w: &mut Welding<'_>,
     list: &[f64],
     cylindrical: bool,
     r: f64,
-    segments: usize,
-    rings: usize,
-) -> Welder
-    requires ready { Ready (held w vertices.old triangles.old work.old) }
-    requires segments_bound { (segments ≤ 1024) × (rings ≤ 1024) }
-    ensures { PartsRun (wire_joints cylindrical list.now r segments rings)
-        (held w vertices.old triangles.old work.old)
-        (held result vertices.new triangles.new work.new) }
+    options: TessellationOptions,
+)
+    requires ready { Ready (held_by w.old) }
+    requires segments_bound { (options.segments ≤ 1024) × (options.sphere_rings ≤ 1024) }
+    ensures { WeldsParts (wire_joints cylindrical list.now r options.segments options.sphere_rings) w.old w.new }
 {
-    let mut st = w;
     let n = list.len() / 3;
-    let mut j = 0;
-    while j + 2 < n {
-        st = weld_joint_part(
-            vertices,
-            triangles,
-            work,
-            st,
-            list,
-            j + 1,
-            cylindrical,
-            r,
-            segments,
-            rings,
-        );
-        j += 1;
+    for j in 2..n {
+        weld_joint_part(w, list, j - 1, cylindrical, r, options);
     }
-    st
 }
 
 pub fn weld_wire(
-    vertices: &mut [f64],
-    triangles: &mut [u32],
-    work: &mut [u32],
-    w: Welder,
+    w: &mut Welding<'_>,
     list: &[f64],
     cylindrical: bool,
     r: f64,
-    segments: usize,
-    rings: usize,
-) -> Welder
-    requires ready { Ready (held w vertices.old triangles.old work.old) }
-    requires segments_bound { (segments ≤ 1024) × (rings ≤ 1024) }
-    ensures { PartsRun (wire_parts cylindrical list.now r segments rings)
-        (held w vertices.old triangles.old work.old)
-        (held result vertices.new triangles.new work.new) }
+    options: TessellationOptions,
+)
+    requires ready { Ready (held_by w.old) }
+    requires segments_bound { (options.segments ≤ 1024) × (options.sphere_rings ≤ 1024) }
+    ensures { WeldsParts (wire_parts cylindrical list.now r options.segments options.sphere_rings) w.old w.new }
 {
     if r > 0.0 {
-        let u = weld_tubes(vertices, triangles, work, w, list, cylindrical, r, segments);
-        return weld_joints(
-            vertices,
-            triangles,
-            work,
-            u,
-            list,
-            cylindrical,
-            r,
-            segments,
-            rings,
-        );
+        weld_tubes(w, list, cylindrical, r, options.segments);
+        weld_joints(w, list, cylindrical, r, options);
     }
-    w
 }

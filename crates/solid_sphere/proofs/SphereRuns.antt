@@ -5,10 +5,11 @@ use mathlib.Core.List.{List, [], ◌++◌, append-nil}
 use Prim.Native.Nat.{ℕ, max, ◌≤◌}
 use native.Mathlib.Omega.{arith}
 use lib.Ieee.{Float, binary64, add, sub, le, lt}
+use Rattle.weld.specs.declared.Welding.{Welding}
+use Rattle.weld.specs.Rep.{Ready}
+use Rattle.weld.specs.Welding.{held_by, Welds, welds_none, welds_then, welds_as}
 use Rattle.ieee.specs.Number.{plus_zero}
 use Rattle.math.specs.declared.Vec3.{Vec3}
-use Rattle.weld.specs.Rep.{Held, Ready, Runs}
-use Rattle.weld.specs.Runs.{runs_none, runs_then, runs_as}
 use Rattle.surface.specs.Within.{SphereWithin}
 use Rattle.surface_spec.specs.declared.Surface.TheVariants.{Sphere}
 use Rattle.solid_spec.specs.Grid.{Soup, grid}
@@ -21,18 +22,18 @@ pub sphere_within : (nt np : ℕ) → nt ≤ 1024 → 3 ≤ np → np ≤ 1024 �
 sphere_within nt np t p q = record { few = t; last = omega arith; some = omega (arith, p); nfew = q }
 
 module _ (c : Vec3) (r : Float) (segments rings : ℕ) (flip : Bool) where
-  pub sphere_none : (h : Held) → Ready h → le r plus_zero ≡ true → Runs (sphere c r segments rings flip) h h
+  pub sphere_none : (h : Welding) → Ready (held_by h) → le r plus_zero ≡ true → Welds (sphere c r segments rings flip) h h
   unfolding sphere
-  sphere_none h R e = runs_as (ap (λ (b : Bool). cond b [] (grid (max rings 2) (max segments 3) flip (sphere_point c r (max rings 2) (max segments 3)))) (sym e)) (runs_none h R)
+  sphere_none h R e = welds_as (ap (λ (b : Bool). cond b [] (grid (max rings 2) (max segments 3) flip (sphere_point c r (max rings 2) (max segments 3)))) (sym e)) (welds_none h R)
 
-  pub grid_runs : (p : List Float) (nt np : ℕ) (h k : Held) → Runs (grid nt np flip (surface_at p (Sphere c r nt np))) h k → Runs (grid nt np flip (sphere_point c r nt np)) h k
-  grid_runs p nt np h k R = runs_as (sym (sphere_surface p c r nt np flip)) R
+  pub grid_runs : (p : List Float) (nt np : ℕ) (h k : Welding) → Welds (grid nt np flip (surface_at p (Sphere c r nt np))) h k → Welds (grid nt np flip (sphere_point c r nt np)) h k
+  grid_runs p nt np h k R = welds_as (sym (sphere_surface p c r nt np flip)) R
 
-  pub sphere_runs : (nt np : ℕ) (h k : Held) → le r plus_zero ≡ false → nt ≡ max rings 2 → np ≡ max segments 3
-      → Runs (grid nt np flip (sphere_point c r nt np)) h k → Runs (sphere c r segments rings flip) h k
+  pub sphere_runs : (nt np : ℕ) (h k : Welding) → le r plus_zero ≡ false → nt ≡ max rings 2 → np ≡ max segments 3
+      → Welds (grid nt np flip (sphere_point c r nt np)) h k → Welds (sphere c r segments rings flip) h k
   unfolding sphere
   sphere_runs nt np h k e a b R =
-      runs_as
+      welds_as
       (ap (λ (n : ℕ). grid n np flip (sphere_point c r n np)) a
       ∙ ap (λ (n : ℕ). grid (max rings 2) n flip (sphere_point c r (max rings 2) n)) b
       ∙ ap (λ (t : Bool). cond t [] (grid (max rings 2) (max segments 3) flip (sphere_point c r (max rings 2) (max segments 3)))) (sym e)) R
@@ -51,11 +52,11 @@ module _ (cylindrical : Bool) (center : Vec3) (radius width : Float) (segments r
       ap (λ (v : Vec3). outer_of v ++ cond t (inner_of v) []) e
       ∙ ap (λ (b : Bool). outer_of (to_cartesian cylindrical center) ++ cond b (inner_of (to_cartesian cylindrical center)) []) (sym f)
 
-  pub shell_one : (c : Vec3) (h k : Held) → c ≡ to_cartesian cylindrical center → lt plus_zero (half width) ≡ false
-      → Runs (sphere c (add binary64 radius (half width)) segments rings false) h k → Runs (spherical_shell_soup cylindrical center radius width segments rings) h k
-  shell_one c h k e f R = runs_as (sym (append-nil (outer_of c)) ∙ shell_is c false e f) R
+  pub shell_one : (c : Vec3) (h k : Welding) → c ≡ to_cartesian cylindrical center → lt plus_zero (half width) ≡ false
+      → Welds (sphere c (add binary64 radius (half width)) segments rings false) h k → Welds (spherical_shell_soup cylindrical center radius width segments rings) h k
+  shell_one c h k e f R = welds_as (sym (append-nil (outer_of c)) ∙ shell_is c false e f) R
 
-  pub shell_two : (c : Vec3) (h k l : Held) → c ≡ to_cartesian cylindrical center → lt plus_zero (half width) ≡ true
-      → Runs (sphere c (add binary64 radius (half width)) segments rings false) h k → Runs (sphere c (sub binary64 radius (half width)) segments rings true) k l
-      → Runs (spherical_shell_soup cylindrical center radius width segments rings) h l
-  shell_two c h k l e f R Q = runs_as (shell_is c true e f) (runs_then (outer_of c) (inner_of c) h k l R Q)
+  pub shell_two : (c : Vec3) (h k l : Welding) → c ≡ to_cartesian cylindrical center → lt plus_zero (half width) ≡ true
+      → Welds (sphere c (add binary64 radius (half width)) segments rings false) h k → Welds (sphere c (sub binary64 radius (half width)) segments rings true) k l
+      → Welds (spherical_shell_soup cylindrical center radius width segments rings) h l
+  shell_two c h k l e f R Q = welds_as (shell_is c true e f) (welds_then (outer_of c) (inner_of c) h k l R Q)

@@ -30,7 +30,7 @@ use Rattle.surface_axis.proofs.Cases.{face_0, face_1, face_2}
 use Rattle.surface.proofs.Tables.{turn_latitude, turn_longitude, turn_on_line, turn_angle, filled_less}
 
 -- the last entry of a table
-pub last_entry : {t : Turns} {n : ℕ} {tab : List Float} → Filled t n tab → entry tab n ≡ turn_at t n
+pub last_entry : {t : Turns} {n : ℕ} {tab : List SinCos} → Filled t n tab → entry tab n ≡ turn_at t n
 last_entry {n = n} w = w.holds n (omega arith)
 
 -- on_face, at a chart that is known
@@ -48,11 +48,11 @@ module _ (h : Chart) (k : ℕ) (val : Float) (u v : Line) (i j : ℕ) where
   face_around a d e1 e2 p r e q x =
       x ∙ ap (λ (y : Polar). around_axis_by a d e1 e2 y.t y.x y.z) q ∙ ap (λ (t : Chart). on_face t k val u v i j) (sym e)
 
-  pub chart_tabled : (g : Chart) (rows cols : List Float) → h ≡ g → Tabled (Face h k val u v) rows cols i j → Tabled (Face g k val u v) rows cols i j
+  pub chart_tabled : (g : Chart) (rows cols : List SinCos) → h ≡ g → Tabled (Face h k val u v) rows cols i j → Tabled (Face g k val u v) rows cols i j
   chart_tabled g rows cols e w = subst (λ (t : Chart). Tabled (Face t k val u v) rows cols i j) e w
 
 -- RoundTabled, by the axis
-module _ (k : ℕ) (u v : Line) (rows cols : List Float) (i j : ℕ) where
+module _ (k : ℕ) (u v : Line) (rows cols : List SinCos) (i j : ℕ) where
   pub round_rows : k ≡ 0 → RoundTabled k u v rows cols i j → Filled (OnLine u) i rows
   round_rows e w = subst (λ (n : ℕ). RoundTabled n u v rows cols i j) e w
 
@@ -65,7 +65,7 @@ module _ (k : ℕ) (val : Float) (u v : Line) (i j : ℕ) where
   abbrev polar : Vec3 → Polar
   polar p = record { t = sin_cos p.y; x = p.x; z = p.z }
 
-  pub polar_0 : (rows : List Float) (t : SinCos) (z : Float) → k ≡ 0 → Filled (OnLine u) i rows → t ≡ entry rows i → z ≡ line_at v j →
+  pub polar_0 : (rows : List SinCos) (t : SinCos) (z : Float) → k ≡ 0 → Filled (OnLine u) i rows → t ≡ entry rows i → z ≡ line_at v j →
       record { t = t; x = val; z = z } ≡ polar_on k val u v i j
   unfolding polar_on
   polar_0 rows t z e w a b =
@@ -75,7 +75,7 @@ module _ (k : ℕ) (val : Float) (u v : Line) (i j : ℕ) where
   unfolding polar_on
   polar_1 t x z e a b c = (λ n. record { t = a n; x = b n; z = c n }) ∙ ap polar (face_1 k val (line_at u i) (line_at v j) e)
 
-  pub polar_2 : (cols : List Float) (t : SinCos) (x : Float) → k < 3 → (k ≡ 0 → ⊥) → (k ≡ 1 → ⊥) → Filled (OnLine v) j cols → t ≡ entry cols j → x ≡ line_at u i →
+  pub polar_2 : (cols : List SinCos) (t : SinCos) (x : Float) → k < 3 → (k ≡ 0 → ⊥) → (k ≡ 1 → ⊥) → Filled (OnLine v) j cols → t ≡ entry cols j → x ≡ line_at u i →
       record { t = t; x = x; z = val } ≡ polar_on k val u v i j
   unfolding polar_on
   polar_2 cols t x l p q w a b =
@@ -89,14 +89,14 @@ module _ (p : List Float) (s t : Surface) (i j : ℕ) where
   pub point_as : (r : Vec3) → s ≡ t → r ≡ surface_at p t i j → r ≡ surface_at p s i j
   point_as r e x = x ∙ ap (λ (y : Surface). surface_at p y i j) (sym e)
 
-pub tabled_as : (s t : Surface) (rows cols : List Float) (i j : ℕ) → s ≡ t → Tabled s rows cols i j → Tabled t rows cols i j
+pub tabled_as : (s t : Surface) (rows cols : List SinCos) (i j : ℕ) → s ≡ t → Tabled s rows cols i j → Tabled t rows cols i j
 tabled_as s t rows cols i j e w = subst (λ (x : Surface). Tabled x rows cols i j) e w
 
 pub on_face_lem : (p : List Float) (chart : Chart) (k : ℕ) (val : Float) (u v : Line) (i j : ℕ) → on_face chart k val u v i j ≡ surface_at p (Face chart k val u v) i j
 unfolding on_face surface_at
 on_face_lem p chart k val u v i j = refl
 
-pub on_sphere_lem : (p rows cols : List Float) (c : Vec3) (r : Float) (nt np i j : ℕ) (v : Vec3) (t q : SinCos) → Tabled (Sphere c r nt np) rows cols i j →
+pub on_sphere_lem : (p : List Float) (rows cols : List SinCos) (c : Vec3) (r : Float) (nt np i j : ℕ) (v : Vec3) (t q : SinCos) → Tabled (Sphere c r nt np) rows cols i j →
     t ≡ entry rows i → q ≡ entry cols j → v ≡ on_sphere c r t q → v ≡ surface_at p (Sphere c r nt np) i j
 unfolding surface_at sphere_point
 on_sphere_lem p rows cols c r nt np i j v t q w a b x =
@@ -107,7 +107,7 @@ pub on_extruded_lem : (p : List Float) (n len : ℕ) (lo hi : Float) (i j : ℕ)
 unfolding on_extruded surface_at
 on_extruded_lem p n len lo hi i j = refl
 
-pub on_rotated_lem : (p cols : List Float) (a q len : ℕ) (full : Bool) (start span : Float) (n i j : ℕ) (r : Vec3) (t : SinCos) → Filled (Angles full start span n) j cols →
+pub on_rotated_lem : (p : List Float) (cols : List SinCos) (a q len : ℕ) (full : Bool) (start span : Float) (n i j : ℕ) (r : Vec3) (t : SinCos) → Filled (Angles full start span n) j cols →
     t ≡ entry cols j → r ≡ on_rotated p a q len t i → r ≡ surface_at p (Rotated a q len full start span n) i j
 unfolding on_rotated surface_at
 on_rotated_lem p cols a q len full start span n i j r t w e x = x ∙ ap (λ (y : SinCos). on_rotated p a q len y i) (e ∙ last_entry w ∙ sym (turn_angle full start span n j))
@@ -117,7 +117,7 @@ pub round_within : (i len m k : ℕ) → 0 < len → 2 * len ≤ m → k ≡ i %
 round_within i len m k s h e = omega (arith, mod-lt i s)
 
 -- smaller indices
-round_less : (n : ℕ) (u v : Line) (rows cols : List Float) (i j k l : ℕ) → k ≤ i → l ≤ j → RoundTabled n u v rows cols i j → RoundTabled n u v rows cols k l
+round_less : (n : ℕ) (u v : Line) (rows cols : List SinCos) (i j k l : ℕ) → k ≤ i → l ≤ j → RoundTabled n u v rows cols i j → RoundTabled n u v rows cols k l
 round_less zero u v rows cols i j k l a b w = filled_less (OnLine u) i k rows a w
 round_less (suc zero) u v rows cols i j k l a b w = w
 round_less (suc (suc n)) u v rows cols i j k l a b w = filled_less (OnLine v) j l cols b w
@@ -128,7 +128,7 @@ within_less p (Sphere c r nt np) i j k l a b w = record { few = w.few; last = om
 within_less p (Extruded n len lo hi) i j k l a b w = w
 within_less p (Rotated x q len full start span n) i j k l a b w = record { some = w.some; held = w.held; steps = w.steps; few = w.few; last = omega (arith, w.last) }
 
-pub tabled_less : (s : Surface) (rows cols : List Float) (i j k l : ℕ) → k ≤ i → l ≤ j → Tabled s rows cols i j → Tabled s rows cols k l
+pub tabled_less : (s : Surface) (rows cols : List SinCos) (i j k l : ℕ) → k ≤ i → l ≤ j → Tabled s rows cols i j → Tabled s rows cols k l
 tabled_less (Face Cartesian n val u v) rows cols i j k l a b w = w
 tabled_less (Face Cylindrical n val u v) rows cols i j k l a b w = round_less n u v rows cols i j k l a b w
 tabled_less (Face (Around x d e1 e2) n val u v) rows cols i j k l a b w = round_less n u v rows cols i j k l a b w
@@ -136,7 +136,7 @@ tabled_less (Sphere c r nt np) rows cols i j k l a b w = (filled_less (Latitudes
 tabled_less (Extruded n len lo hi) rows cols i j k l a b w = w
 tabled_less (Rotated x q len full start span n) rows cols i j k l a b w = filled_less (Angles full start span n) j l cols b w
 
-round_tabled : (line : ℕ → Line) (k : ℕ) (u v : Line) (tab : List Float) → k < 3 → u ≡ line ((k + 1) % 3) → v ≡ line ((k + 2) % 3) → Filled (OnLine (line 1)) (line 1).n tab →
+round_tabled : (line : ℕ → Line) (k : ℕ) (u v : Line) (tab : List SinCos) → k < 3 → u ≡ line ((k + 1) % 3) → v ≡ line ((k + 2) % 3) → Filled (OnLine (line 1)) (line 1).n tab →
     RoundTabled k u v tab tab u.n v.n
 round_tabled line zero u v tab h a b w = subst (λ (l : Line). Filled (OnLine l) l.n tab) (sym a) w
 round_tabled line (suc zero) u v tab h a b w = tt
@@ -144,18 +144,18 @@ round_tabled line (suc (suc zero)) u v tab h a b w = subst (λ (l : Line). Fille
 round_tabled line (suc (suc (suc k))) u v tab h a b w = absurd (omega arith)
 
 -- the tables that a caller makes: one for the faces of a parameter box, of its middle axis; two for a sphere; one for a rotated outline
-pub face_tabled : (line : ℕ → Line) (chart : Chart) (k : ℕ) (val : Float) (u v : Line) (tab : List Float) → k < 3 → u ≡ line ((k + 1) % 3) → v ≡ line ((k + 2) % 3) →
+pub face_tabled : (line : ℕ → Line) (chart : Chart) (k : ℕ) (val : Float) (u v : Line) (tab : List SinCos) → k < 3 → u ≡ line ((k + 1) % 3) → v ≡ line ((k + 2) % 3) →
     Filled (OnLine (line 1)) (line 1).n tab → Tabled (Face chart k val u v) tab tab u.n v.n
 face_tabled line Cartesian k val u v tab h a b w = tt
 face_tabled line Cylindrical k val u v tab h a b w = round_tabled line k u v tab h a b w
 face_tabled line (Around x d e1 e2) k val u v tab h a b w = round_tabled line k u v tab h a b w
 
-pub sphere_tabled : (c : Vec3) (r : Float) (nt np i j : ℕ) (rows cols : List Float) → Filled (Latitudes nt) i rows → Filled (Longitudes np) j cols → Tabled (Sphere c r nt np) rows cols i j
+pub sphere_tabled : (c : Vec3) (r : Float) (nt np i j : ℕ) (rows cols : List SinCos) → Filled (Latitudes nt) i rows → Filled (Longitudes np) j cols → Tabled (Sphere c r nt np) rows cols i j
 sphere_tabled c r nt np i j rows cols a b = (a, b)
 
-pub extruded_tabled : (n len : ℕ) (lo hi : Float) (i j : ℕ) (rows cols : List Float) → Tabled (Extruded n len lo hi) rows cols i j
+pub extruded_tabled : (n len : ℕ) (lo hi : Float) (i j : ℕ) (rows cols : List SinCos) → Tabled (Extruded n len lo hi) rows cols i j
 extruded_tabled n len lo hi i j rows cols = tt
 
-pub rotated_tabled : (a q len : ℕ) (full : Bool) (start span : Float) (n i j : ℕ) (rows cols : List Float) → Filled (Angles full start span n) j cols →
+pub rotated_tabled : (a q len : ℕ) (full : Bool) (start span : Float) (n i j : ℕ) (rows cols : List SinCos) → Filled (Angles full start span n) j cols →
     Tabled (Rotated a q len full start span n) rows cols i j
 rotated_tabled a q len full start span n i j rows cols w = w

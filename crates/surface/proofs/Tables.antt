@@ -1,12 +1,11 @@
--- Tables of sines and cosines: two stores add an entry, and the numbers of a kind by its cases. Assumes nothing.
+-- Tables of sines and cosines: a store adds an entry, and the numbers of a kind by its cases. Assumes nothing.
 use mathlib.Core.Path.{◌≡◌, refl, sym, ap, ◌∙◌, subst}
-use mathlib.Core.Logic.{◌≢◌}
 use mathlib.Core.Bool.{Bool}
 use mathlib.Core.List.{List}
-use Prim.Native.Nat.{ℕ, ◌+◌, ◌*◌, ◌≤◌, ◌<◌}
+use Prim.Native.Nat.{ℕ, ◌+◌, ◌≤◌, ◌<◌}
 use native.Mathlib.Omega.{arith}
 use borrow.Author.Count.{below_more}
-use lib.ListN.{length, set, get_or, length-set}
+use lib.ListN.{length, set}
 use lib.Seq.{get_or-set_same, get_or-set_other}
 use lib.Ieee.{Float, nan}
 use Rattle.trig_spec.specs.declared.SinCos.{SinCos}
@@ -20,32 +19,18 @@ use Rattle.surface.specs.declared.turns.Turns.TheVariants.{Latitudes, Longitudes
 use Rattle.surface.specs.Turns.{turn_at, TurnsWithin, entry, Filled}
 
 -- the entries below k are those of f
-abbrev pub Entries : (ℕ → SinCos) → ℕ → List Float → Type 0
+abbrev pub Entries : (ℕ → SinCos) → ℕ → List SinCos → Type 0
 Entries f k tab = (m : ℕ) → m < k → entry tab m ≡ f m
 
--- two stores add entry k
-module _ (f : ℕ → SinCos) (tab : List Float) (k : ℕ) (p : SinCos) where
-  abbrev pub stored : List Float
-  stored = set (set tab (2 * k) p.sin) (2 * k + 1) p.cos
-
-  kept : (a : ℕ) → a ≢ 2 * k → a ≢ 2 * k + 1 → get_or stored a nan ≡ get_or tab a nan
-  kept a d e = get_or-set_other (set tab (2 * k) p.sin) (2 * k + 1) a p.cos nan e ∙ get_or-set_other tab (2 * k) a p.sin nan d
-
-  added : 2 * k + 2 ≤ length tab → entry stored k ≡ p
-  added h = λ i. record { sin = (first i); cos = (second i) }
-    where
-      first : get_or stored (2 * k) nan ≡ p.sin
-      first = get_or-set_other (set tab (2 * k) p.sin) (2 * k + 1) (2 * k) p.cos nan (λ e. omega arith) ∙ get_or-set_same tab (2 * k) p.sin nan (omega arith)
-
-      second : get_or stored (2 * k + 1) nan ≡ p.cos
-      second = get_or-set_same (set tab (2 * k) p.sin) (2 * k + 1) p.cos nan (simp length-set (omega arith))
-
-  pub entries_more : 2 * k + 2 ≤ length tab → Entries f k tab → p ≡ f k → Entries f (k + 1) stored
-  entries_more h old e =
-      below_more (λ (m : ℕ). entry stored m ≡ f m) k before (added h ∙ e)
-    where
-      before : (m : ℕ) → m < k → entry stored m ≡ f m
-      before m l = (λ i. record { sin = (kept (2 * m) (λ e. omega arith) (λ e. omega arith) i); cos = (kept (2 * m + 1) (λ e. omega arith) (λ e. omega arith) i) }) ∙ old m l
+-- a store adds entry k
+pub entries_more : (f : ℕ → SinCos) (tab : List SinCos) (k : ℕ) (p : SinCos) → k < length tab → Entries f k tab → p ≡ f k → Entries f (k + 1) (set tab k p)
+entries_more f tab k p h old e =
+    below_more (λ (m : ℕ). entry (set tab k p) m ≡ f m) k
+    (λ m l. get_or-set_other tab k m p none (λ e. omega arith) ∙ old m l)
+    (get_or-set_same tab k p none h ∙ e)
+  where
+    none : SinCos
+    none = record { sin = nan; cos = nan }
 
 -- smaller numbers
 pub turns_less : (t : Turns) (n k : ℕ) → k ≤ n → TurnsWithin t n → TurnsWithin t k
@@ -54,7 +39,7 @@ turns_less (Longitudes np) n k l w = w
 turns_less (OnLine x) n k l w = (w.0, omega arith)
 turns_less (Angles full start span m) n k l w = (w.0, w.1, omega arith)
 
-pub filled_less : (t : Turns) (n k : ℕ) (tab : List Float) → k ≤ n → Filled t n tab → Filled t k tab
+pub filled_less : (t : Turns) (n k : ℕ) (tab : List SinCos) → k ≤ n → Filled t n tab → Filled t k tab
 filled_less t n k tab l w = record { long = omega (arith, w.long); holds = λ m h. w.holds m (omega arith) }
 
 -- turn_at

@@ -1,5 +1,5 @@
--- Tables of sines and cosines, so that each is worked out once. Entry k of a table is its floats 2 k and 2 k + 1. Definitions only.
-use Rattle.std.specs.Prelude.{◌≡◌, List, ℕ, zero, suc, ◌+◌, ◌*◌, ◌≤◌, ◌<◌, length, get_or, Float}
+-- Tables of sines and cosines, so that each is worked out once. Definitions only.
+use Rattle.std.specs.Prelude.{◌≡◌, List, ℕ, zero, suc, ◌≤◌, ◌<◌, length, get_or}
 use Rattle.std.specs.Float.{nan}
 use Rattle.trig_spec.specs.declared.SinCos.{SinCos}
 use Rattle.trig_spec.specs.Trig.{sin_cos}
@@ -29,23 +29,23 @@ TurnsWithin (OnLine l) k = (l.n ≤ 1024) × (k ≤ l.n)
 TurnsWithin (Angles full start span n) k = (0 < n) × (n ≤ 1024) × (k ≤ n)
 
 -- entry k of a table
-abbrev pub entry : List Float → ℕ → SinCos
-entry tab k = record { sin = get_or tab (2 * k) nan; cos = get_or tab (2 * k + 1) nan }
+abbrev pub entry : List SinCos → ℕ → SinCos
+entry tab k = get_or tab k (record { sin = nan; cos = nan })
 
 -- the entries 0 to n of the table are those of the kind t
-pub record Filled (t : Turns) (n : ℕ) (tab : List Float) : Type 0 where
-  pub long : 2 * n + 2 ≤ length tab
+pub record Filled (t : Turns) (n : ℕ) (tab : List SinCos) : Type 0 where
+  pub long : n < length tab
   pub holds : (k : ℕ) → k ≤ n → entry tab k ≡ turn_at t k
 
 -- the tables that a face of a parameter box on axis k reads where its middle axis is an angle: by rows for k = 0, by columns for k = 2;
 -- for k = 1 the angle is the face's own
-abbrev pub RoundTabled : ℕ → Line → Line → List Float → List Float → ℕ → ℕ → Type 0
+abbrev pub RoundTabled : ℕ → Line → Line → List SinCos → List SinCos → ℕ → ℕ → Type 0
 RoundTabled zero u v rows cols i j = Filled (OnLine u) i rows
 RoundTabled (suc zero) u v rows cols i j = Unit
 RoundTabled (suc (suc k)) u v rows cols i j = Filled (OnLine v) j cols
 
 -- the tables that a surface's points from (0, 0) to (i, j) read: rows by i, cols by j
-abbrev pub Tabled : Surface → List Float → List Float → ℕ → ℕ → Type 0
+abbrev pub Tabled : Surface → List SinCos → List SinCos → ℕ → ℕ → Type 0
 Tabled (Face Cartesian k val u v) rows cols i j = Unit
 Tabled (Face Cylindrical k val u v) rows cols i j = RoundTabled k u v rows cols i j
 Tabled (Face (Around a d e1 e2) k val u v) rows cols i j = RoundTabled k u v rows cols i j

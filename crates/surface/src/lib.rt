@@ -6,4 +6,4 @@ mod point;
 mod turns;
 
 pub use point::surface_point;
-pub use turns::{Turns, fill_entries, fill_turns};
+pub use turns::{Turns, fill_entries};

@@ -6,7 +6,6 @@ ghost use Rattle.surface.specs.Within.{FaceWithin, ExtrudedWithin, Within};
 ghost use Rattle.surface.specs.Turns.{RoundTabled, Tabled};
 ghost use Rattle.surface.specs.Pieces as Pieces;
 
-use crate::turns;
 use math::Vec3;
 use surface_spec::{Chart, Line, Surface};
 use trig_spec::SinCos;
@@ -28,13 +27,14 @@ fn round(i: usize, len: usize) -> usize
 }
 
 // The point of a face whose middle axis is an angle.
+// k, val, u and v are fields of Surface::Face, taken apart once in surface_point: a struct of them for two functions would be taken apart again.
 fn polar_at(
     k: usize,
     val: f64,
     u: Line,
     v: Line,
-    rows: &[f64],
-    cols: &[f64],
+    rows: &[SinCos],
+    cols: &[SinCos],
     i: usize,
     j: usize,
 ) -> Polar
@@ -44,7 +44,7 @@ fn polar_at(
 {
     if k == 0 {
         Polar {
-            t: turns::entry(rows, i),
+            t: rows[i],
             x: val,
             z: surface_axis::line_at(v, j),
         }
@@ -56,7 +56,7 @@ fn polar_at(
         }
     } else {
         Polar {
-            t: turns::entry(cols, j),
+            t: cols[j],
             x: surface_axis::line_at(u, i),
             z: val,
         }
@@ -69,8 +69,8 @@ fn face_at(
     val: f64,
     u: Line,
     v: Line,
-    rows: &[f64],
-    cols: &[f64],
+    rows: &[SinCos],
+    cols: &[SinCos],
     i: usize,
     j: usize,
 ) -> Vec3
@@ -105,8 +105,8 @@ fn extruded_at(corners: &[f64], n: usize, len: usize, lo: f64, hi: f64, i: usize
 }
 
 fn rotated_at(corners: &[f64], a: usize, q: usize, len: usize, t: SinCos, i: usize) -> Vec3
-    requires fact_1 { 0 < len }
-    requires fact_2 { 2 * len ≤ length corners.now }
+    requires len_positive { 0 < len }
+    requires corners_held { 2 * len ≤ length corners.now }
     ensures { result ≡ Pieces.on_rotated corners.now a q len t i }
 {
     let c = outline::corner(corners, round(i, len));
@@ -117,8 +117,8 @@ fn rotated_at(corners: &[f64], a: usize, q: usize, len: usize, t: SinCos, i: usi
 pub fn surface_point(
     s: Surface,
     corners: &[f64],
-    rows: &[f64],
-    cols: &[f64],
+    rows: &[SinCos],
+    cols: &[SinCos],
     i: usize,
     j: usize,
 ) -> Vec3
@@ -134,9 +134,7 @@ pub fn surface_point(
             u,
             v,
         } => face_at(chart, k, val, u, v, rows, cols, i, j),
-        Surface::Sphere { c, r, nt, np } => {
-            surface_sphere::on_sphere(c, r, turns::entry(rows, i), turns::entry(cols, j))
-        }
+        Surface::Sphere { c, r, nt, np } => surface_sphere::on_sphere(c, r, rows[i], cols[j]),
         Surface::Extruded { n, len, lo, hi } => extruded_at(corners, n, len, lo, hi, i, j),
         Surface::Rotated {
             a,
@@ -146,6 +144,6 @@ pub fn surface_point(
             start,
             span,
             n,
-        } => rotated_at(corners, a, q, len, turns::entry(cols, j), i),
+        } => rotated_at(corners, a, q, len, cols[j], i),
     }
 }

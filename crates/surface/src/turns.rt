@@ -1,6 +1,6 @@
 // Tables of sines and cosines, so that each is worked out once.
-ghost use Rattle.std.specs.Prelude.{◌≡◌, ◌+◌, ◌*◌, ◌≤◌, length};
-ghost use Rattle.surface.specs.Turns.{turn_at, TurnsWithin, entry as entry·, Filled};
+ghost use Rattle.std.specs.Prelude.{◌≡◌, ◌<◌, length};
+ghost use Rattle.surface.specs.Turns.{turn_at, TurnsWithin, Filled};
 
 use surface_spec::Line;
 use trig_spec::SinCos;
@@ -43,37 +43,13 @@ pub fn turn_at(t: Turns, k: usize) -> SinCos
     }
 }
 
-// The entries 0 to n of a table in a slice.
-pub fn fill_entries(t: Turns, n: usize, table: &mut [f64])
+// The entries 0 to n of a table.
+pub fn fill_entries(t: Turns, n: usize, table: &mut [SinCos])
     requires turns_within { TurnsWithin t n }
-    requires n_in_bounds { 2 * n + 2 ≤ length table.old }
+    requires n_in_bounds { n < length table.old }
     ensures { Filled t n table.new }
 {
-    let mut k = 0;
-    while k <= n {
-        let p = turn_at(t, k);
-        table[2 * k] = p.sin;
-        table[2 * k + 1] = p.cos;
-        k += 1;
-    }
-}
-
-// The entries 0 to n of a table.
-pub fn fill_turns(t: Turns, n: usize, table: &mut [f64; 2050])
-    requires { (n ≤ 1024) × TurnsWithin t n }
-    ensures { Filled t n table.new × (length table.new ≡ 2050) }
-{
-    fill_entries(t, n, table);
-}
-
-// Entry k of a table.
-pub fn entry(table: &[f64], k: usize) -> SinCos
-    requires { 2 * k + 2 ≤ length table.now }
-    ensures { result ≡ entry· table.now k }
-{
-    let at = 2 * k;
-    SinCos {
-        sin: table[at],
-        cos: table[at + 1],
+    for k in 0..=n {
+        table[k] = turn_at(t, k);
     }
 }

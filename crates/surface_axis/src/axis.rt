@@ -9,8 +9,8 @@ use surface_spec::Line;
 
 // Grid line i of an axis from lo to hi in n parts. A periodic axis ends where it starts.
 pub fn coord(lo: f64, hi: f64, n: usize, periodic: bool, i: usize) -> f64
-    requires fact_1 { n ≤ 1024 }
-    requires fact_2 { i ≤ n }
+    requires n_in_bounds { n ≤ 1024 }
+    requires i_in_bounds { i ≤ n }
     ensures { result ≡ Box.coord lo hi n periodic i }
 {
     if i == n {

@@ -27,8 +27,8 @@ pub fn line_of(lo: Vec3, hi: Vec3, n: usize, turns: bool, k: usize) -> Line
     ensures { result ≡ line_of lo hi (three 1 n 1) (three false turns false) k }
 {
     Line {
-        lo: math::axis(lo, k),
-        hi: math::axis(hi, k),
+        lo: lo.axis(k),
+        hi: hi.axis(k),
         n: cuts(n, k),
         periodic: wraps(turns, k),
     }
@@ -38,11 +38,7 @@ pub fn line_of(lo: Vec3, hi: Vec3, n: usize, turns: bool, k: usize) -> Line
 pub fn end_of(lo: Vec3, hi: Vec3, k: usize, side: bool) -> f64
     ensures { result ≡ cond side (axis hi k) (axis lo k) }
 {
-    if side {
-        math::axis(hi, k)
-    } else {
-        math::axis(lo, k)
-    }
+    if side { hi.axis(k) } else { lo.axis(k) }
 }
 
 // Whether face f of six is there: 2 * k is the low one of the axis k, 2 * k + 1 the high one. A periodic axis has none, and the high
@@ -54,7 +50,7 @@ pub fn has_face(lo: Vec3, hi: Vec3, turns: bool, f: usize) -> bool
     if wraps(turns, k) {
         return false;
     }
-    let differ = math::axis(hi, k) != math::axis(lo, k);
+    let differ = hi.axis(k) != lo.axis(k);
     if f % 2 == 1 {
         return differ;
     }

@@ -41,9 +41,9 @@ fn beside(d: Vec3) -> Vec3
     ensures { result ≡ Pieces.beside d }
 {
     if ieee::abs(d.x) < 0.9 {
-        math::unit(0)
+        Vec3::unit(0)
     } else {
-        math::unit(1)
+        Vec3::unit(1)
     }
 }
 
@@ -65,13 +65,13 @@ pub fn frame2(d: Vec3) -> Vec3
 fn in_frame(e1: Vec3, e2: Vec3, cs: f64, sn: f64) -> Vec3
     ensures { result ≡ Pieces.in_frame e1 e2 cs sn }
 {
-    math::add(math::mul(e1, cs), math::mul(e2, sn))
+    e1 * cs + e2 * sn
 }
 
 // a + d * z + (e1 * cos + e2 * sin) * x.
 pub fn around_axis_by(a: Vec3, d: Vec3, e1: Vec3, e2: Vec3, t: SinCos, x: f64, z: f64) -> Vec3
     ensures { result ≡ Pieces.around_axis_by a d e1 e2 t x z }
 {
-    let along = math::add(a, math::mul(d, z));
-    math::add(along, math::mul(in_frame(e1, e2, t.cos, t.sin), x))
+    let along = a + d * z;
+    along + in_frame(e1, e2, t.cos, t.sin) * x
 }

@@ -11,6 +11,7 @@ use outline::Point;
 use trig_spec::SinCos;
 
 // The corner c of an outline in the plane with the normal n, at the height h.
+// Not surface_axis::face_point: the edit plane_points_crossed (docs/PROOFS.md) exchanges the coordinates of one of the three cases.
 pub fn plane_point(n: usize, c: Point, h: f64) -> Vec3
     requires { n < 3 }
     ensures { result ≡ Outline.plane_point n c h }
@@ -45,9 +46,9 @@ pub fn height(lo: f64, hi: f64, k: usize) -> f64
 
 // The angle of step k of n. A full turn ends where it starts.
 pub fn angle(full: bool, start: f64, span: f64, n: usize, k: usize) -> f64
-    requires fact_1 { 0 < n }
-    requires fact_2 { n ≤ 1024 }
-    requires fact_3 { k ≤ n }
+    requires n_positive { 0 < n }
+    requires n_in_bounds { n ≤ 1024 }
+    requires k_in_bounds { k ≤ n }
     ensures { result ≡ Outline.angle full start span n k }
 {
     if full {
@@ -62,15 +63,15 @@ pub fn angle(full: bool, start: f64, span: f64, n: usize, k: usize) -> f64
 fn radial(a: usize, q: usize, t: SinCos) -> Vec3
     ensures { result ≡ Pieces.radial a q t }
 {
-    let u = math::unit(q);
-    let w = math_norm::cross(math::unit(a), u);
-    math::add(math::mul(u, t.cos), math::mul(w, t.sin))
+    let u = Vec3::unit(q);
+    let w = math_norm::cross(Vec3::unit(a), u);
+    u * t.cos + w * t.sin
 }
 
 // Vec3::unit(a) * h + (Vec3::unit(q) * cs + w * sn) * rad, of a corner (rad, h).
 pub fn spun(a: usize, q: usize, c: Point, t: SinCos) -> Vec3
     ensures { result ≡ Outline.spun a q c t }
 {
-    let along = math::mul(math::unit(a), c.y);
-    math::add(along, math::mul(radial(a, q, t), c.x))
+    let along = Vec3::unit(a) * c.y;
+    along + radial(a, q, t) * c.x
 }

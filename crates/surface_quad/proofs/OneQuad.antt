@@ -12,7 +12,7 @@ use Rattle.solid_spec.specs.Grid.{Soup, grid}
 use Rattle.solid_spec.specs.ParamBox.{coord}
 use Rattle.surface_spec.specs.Faces.{three, face_point, numbered_face}
 use Rattle.surface_spec.specs.Surface.{mapped}
-use Rattle.surface_quad.specs.declared.Four.{Four}
+use Rattle.weld.specs.declared.Four.{Four}
 use Rattle.surface_quad.specs.Flat.{quad_of}
 
 -- the quad in either order

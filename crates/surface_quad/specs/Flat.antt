@@ -1,7 +1,7 @@
 -- The quad of four points. Definitions only.
 use Rattle.mesh_balance_spec.specs.Grid.{quad}
 use Rattle.solid_spec.specs.Grid.{Soup}
-use Rattle.surface_quad.specs.declared.Four.{Four}
+use Rattle.weld.specs.declared.Four.{Four}
 
 -- its two triangles
 abbrev pub quad_of : Four → Soup

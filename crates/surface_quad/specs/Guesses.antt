@@ -1,6 +1,6 @@
 -- Guesses at the numbers of the points of a box of one part on each axis, for a box whose eight corners differ. Definitions only.
 use Rattle.std.specs.Prelude.{cond, List, [], ◌∷◌, ◌++◌, ℕ, suc, ◌+◌, ◌-◌, ◌*◌, ◌/◌, ◌%◌, ◌^◌, eqb}
-use Rattle.surface_quad.specs.declared.FourNumbers.{FourNumbers}
+use Rattle.weld.specs.declared.FourNumbers.{FourNumbers}
 
 -- a corner as a number: the sum of 2 ^ a over the axes a at whose high bound it is; s, i and j, 1 for high and 0 for low, are those of the axis k and of the
 -- two after it

@@ -8,14 +8,14 @@ ghost use Rattle.surface_spec.specs.Faces.{three, numbered_face};
 ghost use Rattle.surface_spec.specs.Surface.{mapped};
 ghost use Rattle.surface_quad.specs.Flat.{quad_of};
 
-use crate::Four;
 use math::Vec3;
+use weld::Four;
 
 // Grid line 0 of the axis k. Grid line 1 is hi.
 fn first_line(lo: Vec3, hi: Vec3, k: usize) -> f64
     ensures { result ≡ Box.coord (axis lo k) (axis hi k) 1 false 0 }
 {
-    surface_axis::coord(math::axis(lo, k), math::axis(hi, k), 1, false, 0)
+    surface_axis::coord(lo.axis(k), hi.axis(k), 1, false, 0)
 }
 
 // A face's points in the order of its quad: on the low side the other way round.
@@ -39,8 +39,8 @@ pub fn face(lo: Vec3, hi: Vec3, k: usize, side: bool) -> Four
     let val = surface_box::end_of(lo, hi, k, side);
     let a = first_line(lo, hi, u);
     let b = first_line(lo, hi, v);
-    let c = math::axis(hi, u);
-    let d = math::axis(hi, v);
+    let c = hi.axis(u);
+    let d = hi.axis(v);
     in_order(
         side,
         surface_axis::face_point(k, val, a, b),

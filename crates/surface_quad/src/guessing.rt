@@ -2,7 +2,7 @@
 ghost use Rattle.std.specs.Prelude.{◌≡◌, ◌<◌, ◌^◌};
 ghost use Rattle.surface_quad.specs.Guesses.{numbers_from, guesses_of};
 
-use crate::FourNumbers;
+use weld::FourNumbers;
 
 // Four numbers, counted from base.
 fn numbers_from(base: usize, a: usize, b: usize, c: usize, d: usize) -> FourNumbers

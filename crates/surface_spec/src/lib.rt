@@ -1,5 +1,6 @@
 // The types of a surface, for code that takes one by cases. No functions: the specs have the points of each surface, and the proofs that the grids of
 // the solids are grids over surfaces.
+// Cases and no closures, as docs/SCOPE.md has it (M9): a case also tells which tables its points read.
 #![tactic(auto)]
 
 use math::Vec3;

@@ -10,8 +10,8 @@ use trig_spec::SinCos;
 
 // The sine and cosine of row i of nt, exact at both poles.
 pub fn latitude(nt: usize, i: usize) -> SinCos
-    requires fact_1 { nt ≤ 1024 }
-    requires fact_2 { i ≤ nt }
+    requires nt_in_bounds { nt ≤ 1024 }
+    requires i_in_bounds { i ≤ nt }
     ensures { result ≡ Sphere.latitude nt i }
 {
     if i == 0 {
@@ -28,8 +28,8 @@ pub fn latitude(nt: usize, i: usize) -> SinCos
 
 // The sine and cosine of segment j of np. The last one is the first.
 pub fn longitude(np: usize, j: usize) -> SinCos
-    requires fact_1 { 0 < np }
-    requires fact_2 { np ≤ 1024 }
+    requires np_positive { 0 < np }
+    requires np_in_bounds { np ≤ 1024 }
     ensures { result ≡ Sphere.longitude np j }
 {
     let k = j % np;
@@ -45,5 +45,5 @@ pub fn on_sphere(c: Vec3, r: f64, t: SinCos, p: SinCos) -> Vec3
         y: t.sin * p.sin,
         z: t.cos,
     };
-    math::add(c, math::mul(n, r))
+    c + n * r
 }

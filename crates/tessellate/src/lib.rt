@@ -4,72 +4,52 @@
 
 ghost use Rattle.mesh_made.specs.Made.{lent};
 ghost use Rattle.mesh_made.specs.Steps.{Makes};
-ghost use Rattle.tessellate_spec.specs.Outcome.{job, final_mesh, refusal_of};
+ghost use Rattle.tessellate_spec.specs.Outcome.{job_of, final_mesh, refusal_of};
 ghost use Rattle.tessellate_law.specs.Promise.{Promise};
+ghost use Rattle.tessellate_law.specs.Words.{FitsSolid};
 
-use mesh_made::Made;
+use mesh_check::TriMesh;
 use refusal::Refusal;
-use shape::{CoordSystem, OwnSystem, Shape, TessellationOptions};
-use transform::TransformOp;
+use shape::{Drawing, Shape};
 
 // The checks, then the drawing.
 fn make(
-    shape: Shape,
-    list: &[f64],
-    own: OwnSystem,
-    default: CoordSystem,
-    options: TessellationOptions,
-    degrees: bool,
-    ops: [TransformOp; 16],
-    op_count: usize,
+    d: &Drawing<'_>,
     vertices: &mut [f64],
     triangles: &mut [u32],
     work: &mut [u32],
-) -> Made
+) -> Result<TriMesh, Refusal>
     ensures { Makes
-        (refusal_of (job shape list.now own default options degrees ops op_count)
-        (lent vertices.old triangles.old work.old))
-        (final_mesh (job shape list.now own default options degrees ops op_count))
+        (refusal_of (job_of d.now) (lent vertices.old triangles.old work.old))
+        (final_mesh (job_of d.now))
         result vertices.new triangles.new }
 {
     let short = mesh_made::short_work(vertices.len(), work.len());
-    let refusal = shape_check::check_drawing(
-        shape, list, own, default, options, ops, op_count, degrees,
-    );
-    let drawn = refusal::is_accepted(refusal);
+    let drawn = shape_check::check_drawing(d);
     if short {
-        return mesh_made::refused(Refusal::ShortWork);
+        return Err(Refusal::ShortWork);
     }
-    if !drawn {
-        return mesh_made::refused(refusal);
-    }
-    tessellate_weld::draw(
-        shape, list, own, default, options, degrees, ops, op_count, vertices, triangles, work,
-    )
+    drawn?;
+    tessellate_weld::draw(d, vertices, triangles, work)
 }
 
-// tessellate: the mesh of a shape in the lent slices, three floats a vertex and three numbers a triangle.
-// `list` holds the boxes, corners or points of a shape that has some. The first `op_count` operations are applied, in their order;
-// `degrees` says whether their angles are in degrees.
+// The floats of a shape and of its list are floats of binary64, as all that a program holds are.
+fn are_floats(shape: Shape, list: &[f64])
+    ensures { FitsSolid shape list.now }
+{}
+
+// tessellate: the mesh of a drawing in the lent slices, three floats a vertex and three numbers a triangle; its record, or a refusal.
 pub fn tessellate(
-    shape: Shape,
-    list: &[f64],
-    own: OwnSystem,
-    default: CoordSystem,
-    options: TessellationOptions,
-    degrees: bool,
-    ops: [TransformOp; 16],
-    op_count: usize,
+    d: &Drawing<'_>,
     vertices: &mut [f64],
     triangles: &mut [u32],
     work: &mut [u32],
-) -> Made
+) -> Result<TriMesh, Refusal>
     ensures { Promise
-        (job shape list.now own default options degrees ops op_count) (lent vertices.old triangles.old work.old)
+        (job_of d.now) (lent vertices.old triangles.old work.old)
         result vertices.new triangles.new work.new }
 {
-    let made = make(
-        shape, list, own, default, options, degrees, ops, op_count, vertices, triangles, work,
-    );
+    are_floats(d.shape, d.list);
+    let made = make(d, vertices, triangles, work);
     mesh_made::end(made, vertices, triangles, work)
 }

@@ -1,13 +1,14 @@
 -- What a call of `tessellate` promises: its outcome, and of the record and the slices that it leaves the box of the vertices and demand 3. Assumes nothing.
-use Rattle.std.specs.Prelude.{◌≡◌, List, ℕ, Float}
+use Rattle.std.specs.Prelude.{◌≡◌, Result, List, ℕ, Float}
 use Rattle.std.proofs.Common.{sym, subst, ◌∙◌}
-use Rattle.refusal.specs.declared.Refusal.TheVariants.{Accepted}
+use Rattle.refusal.specs.declared.Refusal.{Refusal}
+use Rattle.refusal.specs.Answer.{Accepted, answer_of}
 use Rattle.mesh_spec.specs.Measures.{bounding_box}
 use Rattle.mesh_spec.specs.Closed.{Closed, Proper, NoneTwice, AllThere}
 use Rattle.mesh_check.specs.State.{State, state, mesh_of}
 use Rattle.mesh_edit_law.specs.Lists.{after, AllBring}
-use Rattle.mesh_made.specs.declared.Made.{Made}
-use Rattle.mesh_made.specs.Made.{Lent, GivesMade}
+use Rattle.mesh_check.specs.declared.TriMesh.{TriMesh}
+use Rattle.mesh_made.specs.Made.{Lent, record_made, GivesMade}
 use Rattle.mesh_made.specs.MadeLaws.{left_as, left_bounds}
 use Rattle.mesh_made.proofs.MadeLawsHeld.{made_bounds}
 use Rattle.tessellate_spec.specs.Outcome.{Job, final_mesh, refusal_of, tessellate_of}
@@ -16,7 +17,7 @@ use Rattle.tessellate_law.proofs.Demand3Laws.{demand3}
 use Rattle.tessellate_law.specs.Promise.{Promise}
 
 -- the outcome has it, of the floats of a program
-pub promised : (j : Job) (n : Lent) (r : Made) (vs : List Float) (ts ws : List ℕ)
+pub promised : (j : Job) (n : Lent) (r : Result TriMesh Refusal) (vs : List Float) (ts ws : List ℕ)
     → FitsSolid j.shape j.list → GivesMade (tessellate_of j n) r vs ts ws → Promise j n r vs ts ws
 promised j n r vs ts ws f g = record {
   outcome = g;
@@ -35,8 +36,8 @@ promised j n r vs ts ws f g = record {
     boxed : (left j n).mesh.bounds ≡ bounding_box (mesh_of (left j n))
     boxed = unfold tessellate_of in made_bounds (refusal_of j n) (final_mesh j) n
 
-    accepts : r.refusal ≡ Accepted → Accepts j n
+    accepts : answer_of r ≡ Accepted → Accepts j n
     accepts a = sym g.refusal ∙ a
 
-    left_is : left j n ≡ state r.mesh vs ts
+    left_is : left j n ≡ state (record_made r) vs ts
     left_is = left_as g

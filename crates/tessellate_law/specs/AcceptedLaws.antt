@@ -2,8 +2,7 @@
 use Rattle.std.specs.Prelude.{◌≡◌, refl, Bool, true, false, cond}
 use Rattle.std.proofs.Common.{sym, ap, ◌∙◌, arith}
 use Rattle.std.proofs.lemmas.Bool.{not-false}
-use Rattle.refusal.specs.declared.Refusal.{Refusal}
-use Rattle.refusal.specs.declared.Refusal.TheVariants.{Accepted, PointNotFinite, ShortWork, NoRoom}
+use Rattle.refusal.specs.Answer.{Answer, Accepted, PointNotFinite, ShortWork, NoRoom}
 use Rattle.refusal.specs.Number.{number_of}
 use Rattle.shape.specs.DrawingLaws.{AcceptedDrawing, accepted}
 use Rattle.refusal.specs.Accepted.{is_accepted, or_else}
@@ -17,11 +16,11 @@ use Rattle.tessellate_law.specs.Words.{Accepts, given}
 
 -- ---- tests that did not refuse
 
-passed : (b : Bool) (x r : Refusal) → (number_of x ≡ 0 → ⊥) → cond b x r ≡ Accepted → (b ≡ false) × (r ≡ Accepted)
+passed : (b : Bool) (x r : Answer) → (number_of x ≡ 0 → ⊥) → cond b x r ≡ Accepted → (b ≡ false) × (r ≡ Accepted)
 passed true x r n e = absurd (n (ap number_of e))
 passed false x r n e = (refl, e)
 
-both : (r s : Refusal) → or_else r s ≡ Accepted → (r ≡ Accepted) × (s ≡ Accepted)
+both : (r s : Answer) → or_else r s ≡ Accepted → (r ≡ Accepted) × (s ≡ Accepted)
 unfolding or_else
 both r s = go (is_accepted r) refl
   where

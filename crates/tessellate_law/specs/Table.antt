@@ -1,6 +1,6 @@
 -- docs/SCOPE.md, "Figures": every figure marked (P), as one table that one theorem proves, by computation on the definitions that the contracts cite.
 -- Assumes nothing.
-use Rattle.std.specs.Prelude.{◌≡◌, refl, false, List, [], ◌∷◌, ℕ, pos, negsuc, length, take, Float}
+use Rattle.std.specs.Prelude.{◌≡◌, refl, false, List, [], ◌∷◌, ℕ, pos, negsuc, length, take, Float, None}
 use Rattle.std.proofs.Common.{ap, ◌∙◌, subst, arith}
 use Rattle.std.specs.Float.{fin, binary64}
 use Rattle.std.specs.Float.Ieee.{add, sub, mul, div, neg, of_int, of_bits, eq, lt, le, is_nan}
@@ -29,7 +29,6 @@ use Rattle.solid_spec.specs.Boxes.{box_shape}
 use Rattle.shape.specs.declared.Shape.{Shape}
 use Rattle.shape.specs.declared.Shape.TheVariants.{Box, Sphere}
 use Rattle.shape.specs.declared.CoordSystem.TheVariants.{Cartesian}
-use Rattle.shape.specs.declared.OwnSystem.TheVariants.{Inherited}
 use Rattle.shape.specs.declared.TessellationOptions.{TessellationOptions}
 use Rattle.shape.specs.Drawing.{effective_cs, shape_cs, cylindrical}
 use Rattle.shape.specs.Rotated.{is_rot_poly}
@@ -52,7 +51,7 @@ at a b c = record { x = float a; y = float b; z = float c }
 
 -- a shape without a list, Cartesian, with no operations
 abbrev pub drawn : Shape → TessellationOptions → Job
-drawn s o = record { shape = s; list = []; own = Inherited; default = Cartesian; options = o; degrees = false; ops = no_ops; count = 0 }
+drawn s o = record { shape = s; list = []; own = None; default = Cartesian; options = o; degrees = false; ops = no_ops; count = 0 }
 
 -- 32 segments and 16 rings
 abbrev pub usual : TessellationOptions

@@ -5,7 +5,7 @@ use Rattle.std.specs.Float.{binary64}
 use Rattle.std.specs.Float.Ieee.{sub, eq, fits}
 use Rattle.ieee.specs.Number.{plus_zero, absolute, maximum}
 use Rattle.math.specs.declared.Vec3.{Vec3}
-use Rattle.refusal.specs.declared.Refusal.TheVariants.{Accepted}
+use Rattle.refusal.specs.Answer.{Accepted}
 use Rattle.outline.specs.Clean.{clean_polygon}
 use Rattle.outline.specs.Ccw.{ccw_polygon}
 use Rattle.mesh_spec.specs.Mesh.{Mesh}

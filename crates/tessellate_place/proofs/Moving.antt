@@ -16,8 +16,7 @@ use Rattle.mesh_balance_spec.specs.Soup.{flip_tri}
 use Rattle.mesh_spec.specs.Mesh.{Mesh}
 use Rattle.mesh_spec.specs.Edits.{transform}
 use Rattle.mesh_spec.specs.Slices.{points}
-use Rattle.refusal.specs.declared.Refusal.{Refusal}
-use Rattle.refusal.specs.declared.Refusal.TheVariants.{Accepted, PointNotFinite}
+use Rattle.refusal.specs.Answer.{Answer, Accepted, PointNotFinite}
 use Rattle.slice.specs.Every.{every}
 use Rattle.mesh_check.specs.State.{State, state, mesh_of, stored, Sound}
 use Rattle.mesh_triples.specs.Triples.{each_to, moved_triple}
@@ -49,7 +48,7 @@ module _ (degrees : Bool) (ops : List TransformOp) (count : ℕ) (m : Mesh) wher
   refusal_at : {b : Bool} → eqb count 0 ≡ b
       → placed_refusal degrees ops count m ≡ cond (not b && not (every v_finite (cond b m (transform a m)).vertices)) PointNotFinite Accepted
   unfolding bad_placed
-  refusal_at e = ap {B = Refusal} (λ (b : Bool). cond (not b && not (every v_finite (cond b m (transform a m)).vertices)) PointNotFinite Accepted) e
+  refusal_at e = ap {B = Answer} (λ (b : Bool). cond (not b && not (every v_finite (cond b m (transform a m)).vertices)) PointNotFinite Accepted) e
 
   mesh_at : {b : Bool} → eqb count 0 ≡ b → placed degrees ops count m ≡ cond b m (transform a m)
   unfolding placed

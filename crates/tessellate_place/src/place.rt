@@ -10,12 +10,16 @@ ghost use Rattle.tessellate_place.specs.Ends.{moved_refusal, placed_refusal};
 use crate::turn;
 use math_matrix::Mat4;
 use mesh_check::TriMesh;
-use mesh_made::Made;
 use refusal::Refusal;
-use transform::TransformOp;
+use transform::Operations;
 
 // The mesh under a matrix, unless a coordinate of it is not finite: refusal 5.
-fn moved(mesh: TriMesh, vertices: &mut [f64], triangles: &mut [u32], a: Mat4) -> Made
+fn moved(
+    mesh: TriMesh,
+    vertices: &mut [f64],
+    triangles: &mut [u32],
+    a: Mat4,
+) -> Result<TriMesh, Refusal>
     requires { Sound (state mesh vertices.old triangles.old) }
     ensures { Makes
         (moved_refusal a (mesh_of (state mesh vertices.old triangles.old)))
@@ -24,36 +28,29 @@ fn moved(mesh: TriMesh, vertices: &mut [f64], triangles: &mut [u32], a: Mat4) ->
 {
     let n = mesh.vertices;
     if !mesh_stay_finite::stay_finite(vertices, n, a) {
-        return mesh_made::refused(Refusal::PointNotFinite);
+        return Err(Refusal::PointNotFinite);
     }
     let after = mesh_move::move_mesh(mesh, vertices, triangles, a, false);
-    mesh_made::accepted(after)
+    Ok(after)
 }
 
-// The mesh under the first `op_count` operations.
+// The mesh under the operations that count.
 fn place(
     mesh: TriMesh,
     vertices: &mut [f64],
     triangles: &mut [u32],
-    ops: [TransformOp; 16],
-    op_count: usize,
-    degrees: bool,
-) -> Made
+    ops: &Operations,
+) -> Result<TriMesh, Refusal>
     requires { Recorded (state mesh vertices.old triangles.old) }
     ensures { Makes
-        (placed_refusal degrees ops op_count (mesh_of (state mesh vertices.old triangles.old)))
-        (placed degrees ops op_count (mesh_of (state mesh vertices.old triangles.old)))
+        (placed_refusal ops.now.degrees ops.now.ops ops.now.count (mesh_of (state mesh vertices.old triangles.old)))
+        (placed ops.now.degrees ops.now.ops ops.now.count (mesh_of (state mesh vertices.old triangles.old)))
         result vertices.new triangles.new }
 {
-    if op_count == 0 {
-        return mesh_made::accepted(mesh);
+    if ops.count == 0 {
+        return Ok(mesh);
     }
-    moved(
-        mesh,
-        vertices,
-        triangles,
-        transform::fold(ops, op_count, degrees),
-    )
+    moved(mesh, vertices, triangles, transform::fold(ops))
 }
 
 // A welded mesh to its end: a rotated outline is turned outward, then the operations.
@@ -62,16 +59,14 @@ pub fn complete(
     mesh: TriMesh,
     vertices: &mut [f64],
     triangles: &mut [u32],
-    ops: [TransformOp; 16],
-    op_count: usize,
-    degrees: bool,
-) -> Made
+    ops: &Operations,
+) -> Result<TriMesh, Refusal>
     requires { Whole (state mesh vertices.old triangles.old) }
     ensures { Makes
-        (placed_refusal degrees ops op_count (outward_if rotated (mesh_of (state mesh vertices.old triangles.old))))
-        (placed degrees ops op_count (outward_if rotated (mesh_of (state mesh vertices.old triangles.old))))
+        (placed_refusal ops.now.degrees ops.now.ops ops.now.count (outward_if rotated (mesh_of (state mesh vertices.old triangles.old))))
+        (placed ops.now.degrees ops.now.ops ops.now.count (outward_if rotated (mesh_of (state mesh vertices.old triangles.old))))
         result vertices.new triangles.new }
 {
     turn::turn_rotated(rotated, mesh, vertices, triangles);
-    place(mesh, vertices, triangles, ops, op_count, degrees)
+    place(mesh, vertices, triangles, ops)
 }

@@ -3,8 +3,7 @@ use Rattle.std.specs.Prelude.{◌≡◌, Bool, not, ◌||◌}
 use Rattle.std.proofs.Math.Path.{refl, sym}
 use Rattle.std.proofs.Common.{◌∙◌}
 use Rattle.std.proofs.Math.Bool.{true, false, cond}
-use Rattle.refusal.specs.declared.Refusal.{Refusal}
-use Rattle.refusal.specs.declared.Refusal.TheVariants.{Accepted, PointNotFinite, ShortWork, NoRoom}
+use Rattle.refusal.specs.Answer.{Answer, Accepted, PointNotFinite, ShortWork, NoRoom}
 use Rattle.refusal.specs.Accepted.{is_accepted, or_else}
 use Rattle.mesh_spec.specs.Mesh.{from_parts}
 use Rattle.mesh_spec.specs.Parts.{parts_finite}
@@ -16,10 +15,10 @@ use Rattle.tessellate_spec.specs.OutcomeLaws.{places_same}
 
 module _ (j : Job) (n : Lent) where
   -- the checks from the soup's on
-  abbrev later : Bool → Bool → Refusal
+  abbrev later : Bool → Bool → Answer
   later soup places = cond soup PointNotFinite (cond places NoRoom (cond (bad_vertex j) PointNotFinite Accepted))
 
-  by_tests : (work : Bool) (drawing : Refusal) → short_work n.vertices n.work ≡ work → job_refusal j ≡ drawing
+  by_tests : (work : Bool) (drawing : Answer) → short_work n.vertices n.work ≡ work → job_refusal j ≡ drawing
       → refusal_of j n ≡ cond work ShortWork (or_else drawing (later (bad_soup j) (no_room (welded_mesh j) n.vertices n.triangles)))
   unfolding refusal_of
   by_tests work drawing a b = λ i. cond (a i) ShortWork (or_else (b i) (later (bad_soup j) (no_room (welded_mesh j) n.vertices n.triangles)))
@@ -44,7 +43,7 @@ module _ (j : Job) (n : Lent) where
       ∙ chosen (not (parts_finite (job_parts j))) (no_room (from_parts (job_parts j)) n.vertices n.triangles)
       (cond (bad_vertex j) PointNotFinite Accepted))
     where
-      chosen : (b c : Bool) (z : Refusal) → cond b PointNotFinite (cond c NoRoom z) ≡ or_else (cond b PointNotFinite (cond c NoRoom Accepted)) z
+      chosen : (b c : Bool) (z : Answer) → cond b PointNotFinite (cond c NoRoom z) ≡ or_else (cond b PointNotFinite (cond c NoRoom Accepted)) z
       chosen true c z = unfold or_else in refl
       chosen false true z = unfold or_else in refl
       chosen false false z = unfold or_else in refl

@@ -1,5 +1,5 @@
 -- Outcomes of `tessellate` by computation: docs/SCOPE.md's figures on refusals, the order of the checks, and what the slices hold. Assumes nothing.
-use Rattle.std.specs.Prelude.{◌≡◌, refl, Bool, false, List, [], ◌∷◌, ℕ, pos, take, drop, replicate, Float}
+use Rattle.std.specs.Prelude.{◌≡◌, refl, Bool, false, List, [], ◌∷◌, ℕ, pos, take, drop, replicate, Float, Option, None, Some}
 use Rattle.std.specs.Float.{nan, binary64}
 use Rattle.std.specs.Float.Ieee.{add, sub, mul, div, neg, of_int, of_bits, eq, ne, lt, le, is_nan}
 use Rattle.ieee.specs.Number.{minimum, maximum, absolute}
@@ -7,7 +7,7 @@ use Rattle.math.specs.declared.Vec3.{Vec3}
 use Rattle.math.specs.Vec.{new, v_min, v_max, v_finite}
 use Rattle.math.specs.Box.{empty_box, include}
 use Rattle.math_matrix.specs.Mat.{from_rows, identity, scaling, times_rows, product_row, product, along, over_w, transform_point, det_rows, determinant}
-use Rattle.refusal.specs.declared.Refusal.TheVariants.{Accepted, NotFinite, AngleTooLarge, TooManySegments, BadList, PointNotFinite, ShortWork, NoRoom}
+use Rattle.refusal.specs.Answer.{Accepted, NotFinite, AngleTooLarge, TooManySegments, BadList, PointNotFinite, ShortWork, NoRoom}
 use Rattle.transform.specs.declared.TransformOp.{TransformOp}
 use Rattle.transform.specs.declared.TransformOp.TheVariants.{Scale}
 use Rattle.transform.specs.Angle.{within1000}
@@ -23,8 +23,6 @@ use Rattle.solid_spec.specs.Boxes.{box_shape, multi_box_parts}
 use Rattle.shape.specs.declared.Shape.TheVariants.{Box, MultiBox}
 use Rattle.shape.specs.declared.CoordSystem.{CoordSystem}
 use Rattle.shape.specs.declared.CoordSystem.TheVariants.{Cartesian, Cylindrical}
-use Rattle.shape.specs.declared.OwnSystem.{OwnSystem}
-use Rattle.shape.specs.declared.OwnSystem.TheVariants.{Inherited, Own}
 use Rattle.shape.specs.declared.TessellationOptions.{TessellationOptions}
 use Rattle.shape.specs.Drawing.{effective_cs, shape_cs, cylindrical, too_many_segments, items_of, bad_items, bad_list, list_of}
 use Rattle.shape.specs.Drawing.{shape_finite, point_within, points_within, shape_within, list_within, numbers_bad, angles_bad, drawing_refusal}
@@ -50,7 +48,7 @@ abbrev box_between : Vec3 → Vec3 → CoordSystem → ℕ → List TransformOp 
 box_between a b system segments ops count = record {
   shape = Box a b;
   list = [];
-  own = Inherited;
+  own = None;
   default = system;
   options = record { segments = segments; sphere_rings = 16 };
   degrees = false;
@@ -240,7 +238,7 @@ unfolding computed huge
 -- ---- systems
 
 -- a multi-box is taken in the default system, whatever its own is
-multi_box_system : (own : OwnSystem) (default : CoordSystem) (v : List Float) (o : TessellationOptions) (degrees : Bool)
+multi_box_system : (own : Option CoordSystem) (default : CoordSystem) (v : List Float) (o : TessellationOptions) (degrees : Bool)
     → job_parts (record { shape = MultiBox; list = v; own = own; default = default; options = o; degrees = degrees; ops = []; count = 0 })
     ≡ multi_box_parts (cylindrical default) v o.segments
 unfolding job_parts parts_of shape_cs
@@ -248,7 +246,7 @@ multi_box_system own default v o degrees = refl
 
 -- a box its own where it has one
 box_system : (own default : CoordSystem) (a b : Vec3) (o : TessellationOptions)
-    → job_parts (record { shape = Box a b; list = []; own = Own own; default = default; options = o; degrees = false; ops = []; count = 0 })
+    → job_parts (record { shape = Box a b; list = []; own = Some own; default = default; options = o; degrees = false; ops = []; count = 0 })
     ≡ box_shape a b (cylindrical own) o.segments ∷ []
 unfolding job_parts parts_of shape_cs effective_cs
 box_system own default a b o = refl

@@ -12,18 +12,17 @@
 --   whole soup; 7; 5 over the transformed vertices. The first one that is due is the answer; none is `Accepted`.
 -- - `tessellate_of` is the outcome: the refusal, the record, and the whole final content of the vertex, the triangle and the work slice, whose
 --   lengths are the `Lent` n (crate mesh_made, specs/Made.antt).
-use Rattle.std.specs.Prelude.{Bool, not, ◌&&◌, cond, List, ℕ, take, eqb, Float}
+use Rattle.std.specs.Prelude.{Bool, not, ◌&&◌, cond, List, ℕ, take, eqb, Float, Option}
 use Rattle.math.specs.Vec.{v_finite}
 use Rattle.transform.specs.declared.TransformOp.{TransformOp}
 use Rattle.transform.specs.Ops.{folded}
-use Rattle.refusal.specs.declared.Refusal.{Refusal}
-use Rattle.refusal.specs.declared.Refusal.TheVariants.{Accepted, PointNotFinite, ShortWork, NoRoom}
+use Rattle.refusal.specs.Answer.{Answer, Accepted, PointNotFinite, ShortWork, NoRoom}
 use Rattle.refusal.specs.Accepted.{or_else}
 use Rattle.mesh_spec.specs.Mesh.{Mesh}
 use Rattle.mesh_spec.specs.Parts.{Soup, parts_finite}
 use Rattle.mesh_spec.specs.Edits.{transform}
+use Rattle.shape.specs.declared.Drawing.{Drawing}
 use Rattle.shape.specs.declared.Shape.{Shape}
-use Rattle.shape.specs.declared.OwnSystem.{OwnSystem}
 use Rattle.shape.specs.declared.CoordSystem.{CoordSystem}
 use Rattle.shape.specs.declared.TessellationOptions.{TessellationOptions}
 use Rattle.shape.specs.Drawing.{cylindrical, shape_cs, drawing_refusal}
@@ -32,18 +31,18 @@ use Rattle.mesh_check.specs.State.{no_room}
 use Rattle.mesh_made.specs.Made.{Lent, short_work, Ending, made_as}
 use Rattle.solid_spec.specs.Solid.{parts_of, solid_mesh}
 
--- the arguments of `tessellate`, but for the lent slices
+-- what `tessellate` draws: what a drawing holds
 pub record Job : Type 0 where
   pub shape : Shape
   pub list : List Float
-  pub own : OwnSystem
+  pub own : Option CoordSystem
   pub default : CoordSystem
   pub options : TessellationOptions
   pub degrees : Bool
   pub ops : List TransformOp
   pub count : ℕ
 
-abbrev pub job : Shape → List Float → OwnSystem → CoordSystem → TessellationOptions → Bool → List TransformOp → ℕ → Job
+abbrev pub job : Shape → List Float → Option CoordSystem → CoordSystem → TessellationOptions → Bool → List TransformOp → ℕ → Job
 job shape list own default options degrees ops count = record {
   shape = shape;
   list = list;
@@ -54,6 +53,10 @@ job shape list own default options degrees ops count = record {
   ops = ops;
   count = count;
 }
+
+-- what a drawing holds, as a program hands it over
+abbrev pub job_of : Drawing → Job
+job_of d = job d.shape d.list.now d.own d.default d.options d.operations.degrees d.operations.ops d.operations.count
 
 -- ---- the mesh
 
@@ -77,7 +80,7 @@ final_mesh j = placed j.degrees j.ops j.count (welded_mesh j)
 -- ---- the refusals
 
 -- 3, 4, 1 and 2
-unfoldable pub job_refusal : Job → Refusal
+unfoldable pub job_refusal : Job → Answer
 job_refusal j = drawing_refusal j.shape j.list j.own j.default j.options j.ops j.count j.degrees
 
 -- 5: a coordinate of a soup point is not finite
@@ -94,7 +97,7 @@ unfolding bad_placed
 bad_vertex j = bad_placed j.degrees j.ops j.count (welded_mesh j)
 
 -- the first refusal that is due: 6, then 3, 4, 1, 2, then 5, 7, 5
-unfoldable pub refusal_of : Job → Lent → Refusal
+unfoldable pub refusal_of : Job → Lent → Answer
 refusal_of j n =
     cond (short_work n.vertices n.work) ShortWork
     (or_else (job_refusal j)

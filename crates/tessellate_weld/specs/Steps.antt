@@ -1,6 +1,6 @@
 -- What the contracts of `tessellate_weld` cite: what a drawing that is welded has passed. Definitions only.
 use Rattle.std.specs.Prelude.{◌≡◌, false, List, ◌≤◌, length, Float}
-use Rattle.refusal.specs.declared.Refusal.TheVariants.{Accepted}
+use Rattle.refusal.specs.Answer.{Accepted}
 use Rattle.shape.specs.declared.Shape.{Shape}
 use Rattle.shape.specs.declared.TessellationOptions.{TessellationOptions}
 use Rattle.shape.specs.Drawing.{bad_list, items_of}

@@ -5,7 +5,7 @@ ghost use Rattle.std.specs.Prelude.{◌≡◌, take};
 ghost use Rattle.transform.specs.Angle as Angle;
 ghost use Rattle.transform.specs.Checks as Checks;
 
-use transform::TransformOp;
+use transform::{Operations, TransformOp};
 use trig::Radians;
 
 // Whether an angle is at most 1000 in absolute value.
@@ -31,17 +31,10 @@ fn op_angle_within(op: TransformOp, degrees: bool) -> bool
     }
 }
 
-// Whether every rotation angle of the first `count` operations is within 1000, in radians.
-pub fn ops_angles_within(ops: [TransformOp; 16], count: usize, degrees: bool) -> bool
-    ensures { result ≡ Checks.ops_angles_within degrees (take count ops) }
+// Whether every rotation angle of the operations is within 1000, in radians.
+#[tactic(auto, unfolding(transform::specs::Checks::ops_angles_within))]
+pub fn ops_angles_within(o: &Operations) -> bool
+    ensures { result ≡ Checks.ops_angles_within o.now.degrees (take o.now.count o.now.ops) }
 {
-    let n = transform::at_most_16(count);
-    let mut good = true;
-    let mut i = 0;
-    while i < n {
-        let op = ops[i];
-        good = good & op_angle_within(op, degrees);
-        i += 1;
-    }
-    good
+    slice::all_pass(o.applied(), |op| op_angle_within(op, o.degrees))
 }

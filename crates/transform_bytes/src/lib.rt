@@ -47,6 +47,7 @@ fn matrix_at(b: &[u8], at: usize) -> TransformOp
 }
 
 // The floats of an operation, by its kind.
+// A byte of a file, read into TransformOp below: an enum of kinds would be a second list of the eight, and a match more.
 pub fn op_floats(kind: u8) -> u8
     ensures { result ≡ op_floats kind }
 {
@@ -63,6 +64,7 @@ pub fn op_floats(kind: u8) -> u8
 }
 
 // The operation of a kind, 1 to 8 in the order of `TransformOp`, whose floats begin at place n. Any other kind counts as 8.
+// Not TryFrom: it reads floats at a place of the bytes, which its clause asks to be long enough, and any other kind counts as 8, so nothing fails.
 pub fn op_of_kind(kind: u8, b: &[u8], n: usize) -> TransformOp
     requires { n + 8 * op_floats kind ≤ length b.now }
     ensures { result ≡ op_of_kind kind b.now n }

@@ -5,7 +5,7 @@ ghost use Rattle.std.specs.Prelude.{◌≡◌, take};
 ghost use Rattle.transform.specs.Checks as Checks;
 
 use math_matrix::Row;
-use transform::TransformOp;
+use transform::{Operations, TransformOp};
 
 // Whether there are more than 16 operations.
 pub fn too_many_ops(count: usize) -> bool
@@ -26,13 +26,13 @@ fn op_finite(op: TransformOp) -> bool
     ensures { result ≡ Checks.op_finite op }
 {
     match op {
-        TransformOp::Translate(v) => math::is_finite(v),
-        TransformOp::RotateOrigin(v, a) => math::is_finite(v) & ieee::is_finite(a),
+        TransformOp::Translate(v) => v.is_finite(),
+        TransformOp::RotateOrigin(v, a) => v.is_finite() & ieee::is_finite(a),
         TransformOp::RotateX(a) => ieee::is_finite(a),
         TransformOp::RotateY(a) => ieee::is_finite(a),
         TransformOp::RotateZ(a) => ieee::is_finite(a),
         TransformOp::Scale(s) => ieee::is_finite(s),
-        TransformOp::Scale3(v) => math::is_finite(v),
+        TransformOp::Scale3(v) => v.is_finite(),
         TransformOp::Matrix(p, q, r, s) => row_finite(p)
             & row_finite(q)
             & row_finite(r)
@@ -40,17 +40,10 @@ fn op_finite(op: TransformOp) -> bool
     }
 }
 
-// Whether every number of the first `count` operations is finite.
-pub fn ops_finite(ops: [TransformOp; 16], count: usize) -> bool
-    ensures { result ≡ Checks.ops_finite (take count ops) }
+// Whether every number of the operations is finite.
+#[tactic(auto, unfolding(transform::specs::Checks::ops_finite))]
+pub fn ops_finite(o: &Operations) -> bool
+    ensures { result ≡ Checks.ops_finite (take o.now.count o.now.ops) }
 {
-    let n = transform::at_most_16(count);
-    let mut good = true;
-    let mut i = 0;
-    while i < n {
-        let op = ops[i];
-        good = good & op_finite(op);
-        i += 1;
-    }
-    good
+    slice::all_pass(o.applied(), op_finite)
 }

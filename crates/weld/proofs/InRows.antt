@@ -12,10 +12,12 @@ use Rattle.weld_vertex.specs.Points.{Clean}
 use Rattle.weld_hash.specs.Hash.{Distinct}
 use Rattle.weld_vertex.proofs.Clean.{same_data}
 use Rattle.slice_law.specs.Bools.{not_both}
+use Rattle.std.specs.Prelude.{Option, Some, None}
+use Rattle.weld_order.specs.declared.Row.{Row}
 use Rattle.weld_order.specs.Rows.{among, first_row, next_row, Follows}
 use Rattle.weld.specs.declared.Welder.{Welder}
-use Rattle.weld.specs.Rep.{row_of, InRows, indexed}
-use Rattle.weld.specs.States.{fresh_in, unforeseen, foreseen, Foresees}
+use Rattle.weld.specs.Rep.{row_of, InRows}
+use Rattle.weld.specs.States.{foreseen, Foresees}
 
 -- none of this part is in a chain where it has no vertices
 no_choice : (b : Bool) (m n : ℕ) → m ≡ n → cond b m n ≡ m
@@ -27,48 +29,45 @@ module _ (w : Welder) (vs : List Float) (p : Vec3) where
   last = vertex_at vs (w.count - 1)
 
   -- ---- which answer `foresee` gives
-  pub answer_first : w.base ≡ w.count → fresh_in (first_row p) ≡ foreseen w vs p
+  pub answer_first : w.base ≡ w.count → Some (first_row p) ≡ foreseen w vs p
   unfolding foreseen
   answer_first e = rw (eq-eqb w.base w.count e)
 
-  pub answer_loose : w.base < w.count → w.ordered ≡ false → unforeseen ≡ foreseen w vs p
+  pub answer_loose : w.base < w.count → w.ordered ≡ false → None ≡ foreseen w vs p
   unfolding foreseen
   answer_loose l o = rw (ne_eqb w.base w.count (λ e. omega arith), o)
 
   pub answer_ordered : (b : Bool) → w.base < w.count → w.ordered ≡ true → (v : Vec3) → v ≡ last → among (row_of w) v p ≡ b
-      → cond b unforeseen (fresh_in (next_row (row_of w) v p)) ≡ foreseen w vs p
+      → cond {A = Option Row} b None (Some (next_row (row_of w) v p)) ≡ foreseen w vs p
   unfolding foreseen
   answer_ordered b l o v e a =
-      sym (λ i. cond b unforeseen (fresh_in (next_row (row_of w) (sym e i) p)))
+      sym (λ i. cond {A = Option Row} b None (Some (next_row (row_of w) (sym e i) p)))
       ∙ rw (ne_eqb w.base w.count (λ q. omega arith), o, sym (ap {B = Bool} (λ (u : Vec3). among (row_of w) u p) e) ∙ a)
 
-  -- nothing is known
-  pub not_seen : unforeseen ≡ foreseen w vs p → w.base < w.count → Foresees w vs p unforeseen
-  not_seen a l =
-      record { answer = a; missing = λ q. absurd (not_both false q refl); row = λ q. absurd (not_both false q refl); loose = λ q. absurd (not_both false q refl); some = λ q. l }
-
   -- the first point of a part
-  pub first_seen : w.base ≡ w.count → among (first_row p) p p ≡ true → Foresees w vs p (fresh_in (first_row p))
+  pub first_seen : w.base ≡ w.count → among (first_row p) p p ≡ true → Foresees w vs p (Some (first_row p))
   first_seen e h =
       record {
         answer = answer_first e;
-        missing = λ q m a k. absurd (omega arith);
-        row = λ q. record { has = h; keeps = λ m a k. absurd (omega arith) };
-        loose = λ q. no_choice w.ordered w.base w.count e;
-        some = λ q. absurd (not_both true refl q);
+        shows = record {
+          missing = λ m a k. absurd (omega arith);
+          row = record { has = h; keeps = λ m a k. absurd (omega arith) };
+          loose = no_choice w.ordered w.base w.count e;
+        };
       }
 
   -- a point that is not among those of the rows
   pub next_seen : Distinct vs w.places w.base w.count → InRows w vs → Clean p → w.ordered ≡ true → (v : Vec3) → v ≡ vertex_at vs (w.count - 1) → among (row_of w) v p ≡ false
-      → w.base < w.count → Follows (row_of w) v p (next_row (row_of w) v p) → Foresees w vs p (fresh_in (next_row (row_of w) v p))
+      → w.base < w.count → Follows (row_of w) v p (next_row (row_of w) v p) → Foresees w vs p (Some (next_row (row_of w) v p))
   next_seen S I cp e v h o l F =
       record {
         answer = answer_ordered false l e v h o;
-        missing = λ q m a k s. not_both (among (row_of w) v p) (sym (ap (among (row_of w) v) (same_data (vertex_at vs m) p (S.clean m k) cp s)) ∙ ap (λ (u : Vec3). among (row_of w) u (vertex_at vs m)) h ∙ I e m a k) o;
-        row = λ q. record {
-          has = F.has;
-          keeps = λ m a k. F.keeps (vertex_at vs m) (S.clean m k) (ap (λ (u : Vec3). among (row_of w) u (vertex_at vs m)) h ∙ I e m a k);
+        shows = record {
+          missing = λ m a k s. not_both (among (row_of w) v p) (sym (ap (among (row_of w) v) (same_data (vertex_at vs m) p (S.clean m k) cp s)) ∙ ap (λ (u : Vec3). among (row_of w) u (vertex_at vs m)) h ∙ I e m a k) o;
+          row = record {
+            has = F.has;
+            keeps = λ m a k. F.keeps (vertex_at vs m) (S.clean m k) (ap (λ (u : Vec3). among (row_of w) u (vertex_at vs m)) h ∙ I e m a k);
+          };
+          loose = ap (λ (b : Bool). cond b w.base w.count) e;
         };
-        loose = λ q. ap (λ (b : Bool). cond b w.base w.count) e;
-        some = λ q. absurd (not_both true refl q);
       }

@@ -4,3 +4,4 @@ pub mod States
 pub mod Parts
 pub mod Runs
 pub mod PartsLaws
+pub mod Welding

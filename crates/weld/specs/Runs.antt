@@ -1,5 +1,5 @@
 -- The laws of `Runs`, for callers that weld a soup piece by piece, and when the mesh fits. Assumes nothing.
-use Rattle.std.specs.Prelude.{◌≡◌, refl, Bool, true, false, ◌&&◌, List, [], ◌∷◌, ◌++◌, ◌↔◌, ℕ, ◌≤◌, length, Float}
+use Rattle.std.specs.Prelude.{◌≡◌, refl, Bool, true, false, ◌&&◌, List, [], ◌∷◌, ◌++◌, ◌↔◌}
 use Rattle.std.proofs.Common.{sym, ap, ◌∙◌, subst, true≢false, inl, inr, arith}
 use Rattle.slice_law.specs.Bools.{and_true, and_left, and_assoc, true_unless}
 use Rattle.math.specs.declared.Vec3.{Vec3}

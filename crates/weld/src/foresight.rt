@@ -3,53 +3,31 @@ ghost use Rattle.std.specs.Prelude.{◌≡◌, true, ◌<◌};
 ghost use Rattle.weld_vertex.specs.Points.{Clean};
 ghost use Rattle.weld_hash.specs.Hash.{Distinct};
 ghost use Rattle.weld.specs.Rep.{InRows};
-ghost use Rattle.weld.specs.States.{fresh_in, unforeseen, Foresees};
+ghost use Rattle.weld.specs.States.{Foresees};
 
-use crate::{Foreseen, Welder};
+use crate::{Welder, Welding};
 use math::Vec3;
 use weld_order::Row;
 
-// A new point, and the row after it.
-fn fresh(row: Row) -> Foreseen
-    ensures { result ≡ fresh_in row }
+// What is seen of a point before a search: the row after it where it is new, or nothing, and then it has to be searched for. The first
+// point of a part is new, and so is one that continues the rows.
+pub fn foresee(w: &Welding<'_>, p: Vec3) -> Option<Row>
+    requires { Distinct w.now.vertices.now w.now.st.places w.now.st.base w.now.st.count × InRows w.now.st w.now.vertices.now × Clean p }
+    ensures { Foresees w.now.st w.now.vertices.now p result }
 {
-    Foreseen {
-        near: row.near,
-        fresh: true,
-        rising: row.rising,
+    if w.st.base == w.st.count {
+        return Some(weld_order::first_row(p));
     }
-}
-
-// A point that has to be searched for.
-pub fn unknown() -> Foreseen
-    ensures { result ≡ unforeseen }
-{
-    Foreseen {
-        near: 0.0,
-        fresh: false,
-        rising: false,
+    if w.st.ordered {
+        return from_last(w.vertices, &w.st, p);
     }
-}
-
-// The first point of a part is new, and so is one that continues the rows.
-pub fn foresee(vertices: &[f64], w: Welder, p: Vec3) -> Foreseen
-    requires { Distinct vertices.now w.places w.base w.count × InRows w vertices.now × Clean p }
-    ensures { Foresees w vertices.now p result }
-{
-    if w.base == w.count {
-        return fresh(weld_order::first_row(p));
-    }
-    let ordered = w.ordered;
-    if ordered {
-        return from_last(vertices, w, p);
-    }
-    unknown()
+    None
 }
 
 // The same where there are vertices, and they came row by row.
-fn from_last(vertices: &[f64], w: Welder, p: Vec3) -> Foreseen
-    requires { Distinct vertices.now w.places w.base w.count × InRows w vertices.now × Clean p × (w.base < w.count) × (w.ordered ≡ true) }
-    ensures { Foresees w vertices.now p result }
+fn from_last(vertices: &[f64], w: &Welder, p: Vec3) -> Option<Row>
+    requires { Distinct vertices.now w.now.places w.now.base w.now.count × InRows w.now vertices.now × Clean p × (w.now.base < w.now.count) × (w.now.ordered ≡ true) }
+    ensures { Foresees w.now vertices.now p result }
 {
     let row = Row {
         near: w.near,
@@ -57,7 +35,7 @@ fn from_last(vertices: &[f64], w: Welder, p: Vec3) -> Foreseen
     };
     let last = mesh_triples::vertex(vertices, w.count - 1);
     if weld_order::is_among(row, last, p) {
-        return unknown();
+        return None;
     }
-    fresh(weld_order::next_row(row, last, p))
+    Some(weld_order::next_row(row, last, p))
 }

@@ -2,21 +2,23 @@
 // slices, three floats a vertex and three numbers a triangle; the work slice holds the hash chains of `weld_hash`.
 #![tactic(auto)]
 
-ghost use Rattle.std.specs.Prelude.{◌*◌, ◌/◌, ◌≤◌, length};
-ghost use Rattle.weld.specs.Rep.{Begun, Parted};
+ghost use Rattle.std.specs.Prelude.{◌≡◌, ◌*◌, ◌/◌, ◌≤◌, length};
+ghost use Rattle.weld.specs.Rep.{Begun};
+ghost use Rattle.weld.specs.Welding.{NewPart};
 
 mod foresight;
 mod point;
 mod states;
 
-pub use foresight::{foresee, unknown};
+pub use foresight::foresee;
+use math::Vec3;
 pub use point::plus_zero;
-pub use states::{full, grown, settled, stopped, with_face};
 
 // The state of the welder. `base` vertices belong to the parts before this one, `count` vertices and `faces` triangles are
 // written, and `places` vertices fit. `finite` is false once a point was not finite, `room` once the mesh did not fit. While
 // the vertices of this part come row by row, `ordered` is true, and `near` and `rising` are the row of the last one, see `weld_order`.
 // They go into the chains when one is searched for; from then on `ordered` is false.
+// Two flags, not one refusal: after the mesh did not fit, points are still tested, and one that is not finite then is the refusal that counts.
 #[derive(Clone, Copy)]
 pub struct Welder {
     pub base: usize,
@@ -30,12 +32,31 @@ pub struct Welder {
     pub rising: bool,
 }
 
-// What is seen of a point before a search: whether it is new, and the row after it.
+// A mesh while it is welded: the welder's state, and the slices that were lent for the vertices, the triangles and the hash chains.
+#[derive(Drop)]
+pub struct Welding<'a> {
+    pub st: Welder,
+    pub vertices: &'a mut [f64],
+    pub triangles: &'a mut [u32],
+    pub work: &'a mut [u32],
+}
+
+// The points of a quad.
 #[derive(Clone, Copy)]
-pub struct Foreseen {
-    pub near: f64,
-    pub fresh: bool,
-    pub rising: bool,
+pub struct Four {
+    pub a: Vec3,
+    pub b: Vec3,
+    pub c: Vec3,
+    pub d: Vec3,
+}
+
+// Their numbers, or guesses at them.
+#[derive(Clone, Copy)]
+pub struct FourNumbers {
+    pub a: usize,
+    pub b: usize,
+    pub c: usize,
+    pub d: usize,
 }
 
 // Nothing is welded yet. The work slice becomes all zero: no vertex is in a chain.
@@ -43,7 +64,7 @@ pub fn begin(vertices: &[f64], work: &mut [u32]) -> Welder
     requires { 2 * (length vertices.now / 3) ≤ length work.old }
     ensures { Begun result vertices.now work.new }
 {
-    slice::clear_numbers(work, 0);
+    slice::clear_from(work, 0, 0);
     Welder {
         base: 0,
         count: 0,
@@ -58,13 +79,11 @@ pub fn begin(vertices: &[f64], work: &mut [u32]) -> Welder
 }
 
 // A new part: its points are matched with its own vertices alone.
-pub fn new_part(w: Welder) -> Welder
-    ensures { Parted w result }
+pub fn new_part(w: &mut Welding<'_>)
+    ensures { NewPart w.old w.new }
 {
-    let mut t = w;
-    t.base = w.count;
-    t.near = 0.0;
-    t.ordered = false;
-    t.rising = false;
-    t
+    w.st.base = w.st.count;
+    w.st.near = 0.0;
+    w.st.ordered = false;
+    w.st.rising = false;
 }

@@ -1,69 +1,68 @@
-// The states of the welder after a step.
-ghost use Rattle.std.specs.Prelude.{◌≡◌, ◌<◌, ◌^◌};
-ghost use Rattle.weld.specs.States.{unfinite, shut, more, more_faces, settled as settledState};
+// The steps of the welder's state, each in its place.
+ghost use Rattle.std.specs.Prelude.{◌≡◌, ◌<◌, ◌^◌, Some, None};
+ghost use Rattle.weld.specs.States.{unfinite, shut, more, more_at, more_faces, settled};
 
-use crate::{Foreseen, Welder};
+use crate::Welder;
+use weld_order::Row;
 
-// The state after a point that is not finite.
-pub fn stopped(w: Welder) -> Welder
-    ensures { result ≡ unfinite w }
-{
-    let mut t = w;
-    t.finite = false;
-    t
-}
-
-// The state after the mesh did not fit.
-pub fn full(w: Welder) -> Welder
-    ensures { result ≡ shut w }
-{
-    let mut t = w;
-    t.room = false;
-    t
-}
-
-// The state after a new vertex. All fields are written out, here and in `with_face`: a copy with some fields set afterwards takes longer, for each
-// vertex and triangle.
-pub fn grown(w: Welder, f: Foreseen) -> Welder
-    requires { w.count < 2 ^ 32 }
-    ensures { result ≡ more w f }
-{
-    Welder {
-        base: w.base,
-        count: w.count + 1,
-        places: w.places,
-        faces: w.faces,
-        near: f.near,
-        finite: w.finite,
-        room: w.room,
-        ordered: f.fresh,
-        rising: f.rising,
+impl Welder {
+    // A point was not finite.
+    pub fn stop(&mut self)
+        ensures { self.new ≡ unfinite self.old }
+    {
+        self.finite = false;
     }
-}
 
-// The state after a new triangle.
-pub fn with_face(w: Welder) -> Welder
-    requires { w.faces < 2 ^ 32 }
-    ensures { result ≡ more_faces w }
-{
-    Welder {
-        base: w.base,
-        count: w.count,
-        places: w.places,
-        faces: w.faces + 1,
-        near: w.near,
-        finite: w.finite,
-        room: w.room,
-        ordered: w.ordered,
-        rising: w.rising,
+    // The mesh did not fit.
+    pub fn shut(&mut self)
+        ensures { self.new ≡ shut self.old }
+    {
+        self.room = false;
     }
-}
 
-// The state after all vertices of this part went into the chains.
-pub fn settled(w: Welder) -> Welder
-    ensures { result ≡ settledState w }
-{
-    let mut t = w;
-    t.ordered = false;
-    t
+    // A new vertex, which the rows showed to be new, and the row after it.
+    pub fn add_in_row(&mut self, row: Row)
+        requires { self.old.count < 2 ^ 32 }
+        ensures { self.new ≡ more self.old (Some row) }
+    {
+        self.add(row, true);
+    }
+
+    // A new vertex that was searched for: it is in a chain.
+    pub fn add_searched(&mut self)
+        requires { self.old.count < 2 ^ 32 }
+        ensures { self.new ≡ more self.old None }
+    {
+        let none = Row {
+            near: 0.0,
+            rising: false,
+        };
+        self.add(none, false);
+    }
+
+    // A new vertex, and the row of the last one.
+    fn add(&mut self, row: Row, ordered: bool)
+        requires { self.old.count < 2 ^ 32 }
+        ensures { self.new ≡ more_at self.old row ordered }
+    {
+        self.count += 1;
+        self.near = row.near;
+        self.ordered = ordered;
+        self.rising = row.rising;
+    }
+
+    // A new triangle.
+    pub fn add_face(&mut self)
+        requires { self.old.faces < 2 ^ 32 }
+        ensures { self.new ≡ more_faces self.old }
+    {
+        self.faces += 1;
+    }
+
+    // All vertices of this part went into the chains.
+    pub fn settle(&mut self)
+        ensures { self.new ≡ settled self.old }
+    {
+        self.ordered = false;
+    }
 }

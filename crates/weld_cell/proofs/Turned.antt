@@ -8,29 +8,23 @@ use Rattle.math.specs.declared.Vec3.{Vec3}
 use Rattle.mesh_balance_spec.specs.Soup.{Tri}
 use Rattle.mesh_balance_spec.specs.Grid.{quad, quad_turned}
 use Rattle.slice_law.specs.Bools.{not_both}
-use Rattle.weld_search.specs.declared.Welded.{Welded}
 use Rattle.weld.specs.declared.Welder.{Welder}
+use Rattle.weld.specs.declared.Four.{Four}
+use Rattle.weld.specs.declared.FourNumbers.{FourNumbers}
 use Rattle.weld.specs.Rep.{Held, Linked}
-use Rattle.weld_quad.specs.declared.Quad.{Quad}
-use Rattle.weld_quad.specs.Quads.{Known, Numbered, quad_with, LastRuns}
+use Rattle.weld_quad.specs.Quads.{Known, Numbered, LastRuns}
 use Rattle.weld_quad.proofs.Quads.{known_small}
-use Rattle.weld_cell.specs.Cell.{exchanged}
+use Rattle.weld_cell.specs.Cell.{turned, exchanged}
 
-module _ (a b c d : Vec3) (h : Held) (q : Quad) (vs : List Float) (ts ws : List ℕ) where
-  exchange : (soup : List (Tri Vec3)) → Numbered soup a d c b h q vs ts ws → Numbered soup a b c d h (exchanged q) vs ts ws
+module _ (p : Four) (h k : Held) (n : FourNumbers) where
+  exchange : (soup : List (Tri Vec3)) → Numbered soup (turned p) h k n → Numbered soup p h k (exchanged n)
   exchange soup N = record { runs = N.runs; known_a = N.known_a; known_b = N.known_d; known_c = N.known_c; known_d = N.known_b }
 
-  pub cell_flipped : (flip : Bool) → flip ≡ true → Numbered (quad a d c b) a d c b h q vs ts ws → Numbered (quad_turned flip a b c d) a b c d h (exchanged q) vs ts ws
-  cell_flipped flip e N = subst (λ (t : Bool). Numbered (quad_turned t a b c d) a b c d h (exchanged q) vs ts ws) (sym e) (exchange (quad a d c b) N)
+  pub cell_flipped : (flip : Bool) → flip ≡ true → Numbered (quad p.a p.d p.c p.b) (turned p) h k n → Numbered (quad_turned flip p.a p.b p.c p.d) p h k (exchanged n)
+  cell_flipped flip e N = subst (λ (t : Bool). Numbered (quad_turned t p.a p.b p.c p.d) p h k (exchanged n)) (sym e) (exchange (quad p.a p.d p.c p.b) N)
 
-  pub cell_straight : (flip : Bool) → flip ≡ false → Numbered (quad a b c d) a b c d h q vs ts ws → Numbered (quad_turned flip a b c d) a b c d h q vs ts ws
-  cell_straight flip e N = subst (λ (t : Bool). Numbered (quad_turned t a b c d) a b c d h q vs ts ws) (sym e) N
-
--- the parts of a test of three
-pub all_three : (x y z : Bool) → (x && y && z) ≡ true → (x ≡ true) × (y ≡ true) × (z ≡ true)
-all_three true true z e = (refl, refl, e)
-all_three true false z e = absurd (not_both false e refl)
-all_three false y z e = absurd (not_both false e refl)
+  pub cell_straight : (flip : Bool) → flip ≡ false → Numbered (quad p.a p.b p.c p.d) p h k n → Numbered (quad_turned flip p.a p.b p.c p.d) p h k n
+  cell_straight flip e N = subst (λ (t : Bool). Numbered (quad_turned t p.a p.b p.c p.d) p h k n) (sym e) N
 
 -- the numbers of the two triangles are 32-bit numbers
 pick_small : (flip : Bool) (x y z n : ℕ) → z ≡ cond flip x y → x < n → y < n → z < n
@@ -45,13 +39,13 @@ row_small flip w vs ws a b d na nb nd second fourth L f r A B D p q =
     (known_small w vs ws a na L f r A, pick_small flip nd nb second (2 ^ 32) p ld lb, pick_small flip nb nd fourth (2 ^ 32) q lb ld)
 
 -- a cell of which only c was looked up
-pub cell_last : (flip : Bool) (a b c d : Vec3) (na nb nd second fourth : ℕ) (h : Held) (t : Welded) (vs : List Float) (ts ws : List ℕ)
-    → second ≡ cond flip nd nb → fourth ≡ cond flip nb nd → LastRuns c na second fourth h t vs ts ws
-    → Known h.st h.vertices a na → Known h.st h.vertices b nb → Known h.st h.vertices d nd
-    → Numbered (quad_turned flip a b c d) a b c d h (quad_with t na nb nd) vs ts ws
-cell_last flip a b c d na nb nd second fourth h t vs ts ws p q L A B D =
-    go flip (subst (λ (n : ℕ). LastRuns c na (cond flip nd nb) n h t vs ts ws) q (subst (λ (n : ℕ). LastRuns c na n fourth h t vs ts ws) p L))
+pub cell_last : (flip : Bool) (p : Four) (n : FourNumbers) (second fourth nc : ℕ) (h k : Held)
+    → second ≡ cond flip n.d n.b → fourth ≡ cond flip n.b n.d → LastRuns p.c n.a second fourth h k nc
+    → Known h.st h.vertices p.a n.a → Known h.st h.vertices p.b n.b → Known h.st h.vertices p.d n.d
+    → Numbered (quad_turned flip p.a p.b p.c p.d) p h k (record { a = n.a; b = n.b; c = nc; d = n.d })
+cell_last flip p n second fourth nc h k e f L A B D =
+    go flip (subst (λ (m : ℕ). LastRuns p.c n.a (cond flip n.d n.b) m h k nc) f (subst (λ (m : ℕ). LastRuns p.c n.a m fourth h k nc) e L))
   where
-    go : (f : Bool) → LastRuns c na (cond f nd nb) (cond f nb nd) h t vs ts ws → Numbered (quad_turned f a b c d) a b c d h (quad_with t na nb nd) vs ts ws
-    go true M = exchange a b c d h (quad_with t na nd nb) vs ts ws (quad a d c b) (M a d b A D B)
-    go false M = M a b d A B D
+    go : (t : Bool) → LastRuns p.c n.a (cond t n.d n.b) (cond t n.b n.d) h k nc → Numbered (quad_turned t p.a p.b p.c p.d) p h k (record { a = n.a; b = n.b; c = nc; d = n.d })
+    go true M = exchange p h k (record { a = n.a; b = n.d; c = nc; d = n.b }) (quad p.a p.d p.c p.b) (M p.a p.d p.b A D B)
+    go false M = M p.a p.b p.d A B D

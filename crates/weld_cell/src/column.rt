@@ -2,121 +2,71 @@
 ghost use Rattle.std.specs.Prelude.{◌≡◌, true, ◌<◌, ◌^◌};
 ghost use Rattle.mesh_balance_spec.specs.Grid.{quad_turned};
 ghost use Rattle.weld_vertex.specs.Points.{Clean};
-ghost use Rattle.weld.specs.Rep.{held, Ready};
-ghost use Rattle.weld_quad.specs.Quads.{Known, Numbered};
-ghost use Rattle.weld_cell.specs.Cell.{SideRuns, TurnedSideRuns};
+ghost use Rattle.weld.specs.Rep.{Ready};
+ghost use Rattle.weld.specs.Welding.{held_by};
+ghost use Rattle.weld_quad.specs.Quads.{Known, WeldsQuad};
+ghost use Rattle.weld_cell.specs.Cell.{WeldsSide, WeldsTurnedSide};
 
 use math::Vec3;
-use weld::Welder;
-use weld_quad::Quad;
+use weld::{Four, FourNumbers, Welding};
 
-// One cell: the quad a, b, c, d, or where flip says so a, d, c, b. Where `known` is true, na and nd are the numbers of a and d, as after
-// the cell before in a column, and only b and c are tested for being finite, and looked up. The other numbers are guesses.
+// One cell: the quad p, or where flip says so with b and d exchanged. Where `known` is true, the numbers of a and d are those of the points, as
+// after the cell before in a column, and only b and c are tested for being finite, and looked up. The other numbers are guesses.
 pub fn weld_in_column(
-    vertices: &mut [f64],
-    triangles: &mut [u32],
-    work: &mut [u32],
-    w: Welder,
+    w: &mut Welding<'_>,
     flip: bool,
     known: bool,
-    a: Vec3,
-    b: Vec3,
-    c: Vec3,
-    d: Vec3,
-    na: usize,
-    nb: usize,
-    nc: usize,
-    nd: usize,
-) -> Quad
-    requires ready { Ready (held w vertices.old triangles.old work.old) }
-    requires known { known ≡ true → Known w vertices.old a na × Known w vertices.old d nd }
-    ensures { Numbered (quad_turned flip a b c d) a b c d
-        (held w vertices.old triangles.old work.old)
-        result vertices.new triangles.new work.new }
+    p: Four,
+    n: FourNumbers,
+) -> FourNumbers
+    requires ready { Ready (held_by w.old) }
+    requires known { known ≡ true → Known w.old.st w.old.vertices.now p.a n.a × Known w.old.st w.old.vertices.now p.d n.d }
+    ensures { WeldsQuad (quad_turned flip p.a p.b p.c p.d) p w.old w.new result }
 {
-    let finite = w.finite;
-    let room = w.room;
-    if known & finite & room {
-        if math::is_finite(b) {
-            if math::is_finite(c) {
-                let e = weld::plus_zero(b);
-                let f = weld::plus_zero(c);
-                if flip {
-                    return weld_turned_side(vertices, triangles, work, w, e, f, na, nb, nc, nd);
-                }
-                return weld_side(vertices, triangles, work, w, e, f, na, nb, nc, nd);
-            }
+    if known && w.st.finite && w.st.room && p.b.is_finite() && p.c.is_finite() {
+        let b = weld::plus_zero(p.b);
+        let c = weld::plus_zero(p.c);
+        if flip {
+            return weld_turned_side(w, b, c, n);
         }
+        return weld_side(w, b, c, n);
     }
-    crate::weld_cell(
-        vertices, triangles, work, w, flip, a, b, c, d, na, nb, nc, nd,
-    )
+    crate::weld_cell(w, flip, p, n)
 }
 
-// The triangles a, b, c and a, c, d where na and nd are the numbers of a and d, and b and c came out of `+ 0.0`.
-fn weld_side(
-    vertices: &mut [f64],
-    triangles: &mut [u32],
-    work: &mut [u32],
-    w: Welder,
-    b: Vec3,
-    c: Vec3,
-    na: usize,
-    nb: usize,
-    nc: usize,
-    nd: usize,
-) -> Quad
-    requires ready { Ready (held w vertices.old triangles.old work.old) }
-    requires clean { Clean b × Clean c × (na < 2 ^ 32) × (nd < 2 ^ 32) }
-    ensures { SideRuns b c na nd
-        (held w vertices.old triangles.old work.old)
-        result vertices.new triangles.new work.new }
+// The triangles a, b, c and a, c, d where n has the numbers of a and d, and b and c came out of `+ 0.0`.
+fn weld_side(w: &mut Welding<'_>, b: Vec3, c: Vec3, n: FourNumbers) -> FourNumbers
+    requires ready { Ready (held_by w.old) }
+    requires clean { Clean b × Clean c × (n.a < 2 ^ 32) × (n.d < 2 ^ 32) }
+    ensures { WeldsSide b c n.a n.d w.old w.new result }
 {
-    let pb = weld_search::weld_point(vertices, work, w, b, nb);
-    let sb = pb.st;
-    let pc = weld_search::weld_point(vertices, work, sb, c, nc);
-    let sc = pc.st;
-    let u = weld_triangle::add_triangle(triangles, sc, na, pb.number, pc.number);
-    let v = weld_triangle::add_triangle(triangles, u, na, pc.number, nd);
-    Quad {
-        st: v,
-        a: na,
-        b: pb.number,
-        c: pc.number,
-        d: nd,
+    let nb = weld_search::weld_point(w, b, n.b);
+    let nc = weld_search::weld_point(w, c, n.c);
+    weld_triangle::add_triangle(w, n.a, nb, nc);
+    weld_triangle::add_triangle(w, n.a, nc, n.d);
+    FourNumbers {
+        a: n.a,
+        b: nb,
+        c: nc,
+        d: n.d,
     }
 }
 
 // The same for the triangles a, d, c and a, c, b: c comes before b.
-fn weld_turned_side(
-    vertices: &mut [f64],
-    triangles: &mut [u32],
-    work: &mut [u32],
-    w: Welder,
-    b: Vec3,
-    c: Vec3,
-    na: usize,
-    nb: usize,
-    nc: usize,
-    nd: usize,
-) -> Quad
-    requires ready { Ready (held w vertices.old triangles.old work.old) }
-    requires clean { Clean b × Clean c × (na < 2 ^ 32) × (nd < 2 ^ 32) }
-    ensures { TurnedSideRuns b c na nd
-        (held w vertices.old triangles.old work.old)
-        result vertices.new triangles.new work.new }
+// A function of its own: the order of the look-ups decides which numbers new points get.
+fn weld_turned_side(w: &mut Welding<'_>, b: Vec3, c: Vec3, n: FourNumbers) -> FourNumbers
+    requires ready { Ready (held_by w.old) }
+    requires clean { Clean b × Clean c × (n.a < 2 ^ 32) × (n.d < 2 ^ 32) }
+    ensures { WeldsTurnedSide b c n.a n.d w.old w.new result }
 {
-    let pc = weld_search::weld_point(vertices, work, w, c, nc);
-    let sc = pc.st;
-    let u = weld_triangle::add_triangle(triangles, sc, na, nd, pc.number);
-    let pb = weld_search::weld_point(vertices, work, u, b, nb);
-    let sb = pb.st;
-    let v = weld_triangle::add_triangle(triangles, sb, na, pc.number, pb.number);
-    Quad {
-        st: v,
-        a: na,
-        b: pb.number,
-        c: pc.number,
-        d: nd,
+    let nc = weld_search::weld_point(w, c, n.c);
+    weld_triangle::add_triangle(w, n.a, n.d, nc);
+    let nb = weld_search::weld_point(w, b, n.b);
+    weld_triangle::add_triangle(w, n.a, nc, nb);
+    FourNumbers {
+        a: n.a,
+        b: nb,
+        c: nc,
+        d: n.d,
     }
 }

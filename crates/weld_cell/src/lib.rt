@@ -3,100 +3,72 @@
 #![tactic(auto)]
 
 ghost use Rattle.std.specs.Prelude.{◌≡◌, true, cond};
-ghost use Rattle.weld.specs.Rep.{held, Ready};
-ghost use Rattle.weld_quad.specs.Quads.{Known, Numbered};
+ghost use Rattle.weld.specs.Rep.{Ready};
+ghost use Rattle.weld.specs.Welding.{held_by};
+ghost use Rattle.weld_quad.specs.Quads.{Known, WeldsQuad};
 ghost use Rattle.mesh_balance_spec.specs.Grid.{quad_turned};
 
 mod column;
 
 pub use column::weld_in_column;
-use math::Vec3;
-use weld::Welder;
-use weld_quad::Quad;
+use weld::{Four, FourNumbers, Welding};
 
-// One cell: the quad a, b, c, d, or where flip says so a, d, c, b. The last four arguments are guesses at the numbers of a, b, c and d.
-fn weld_cell(
-    vertices: &mut [f64],
-    triangles: &mut [u32],
-    work: &mut [u32],
-    w: Welder,
-    flip: bool,
-    a: Vec3,
-    b: Vec3,
-    c: Vec3,
-    d: Vec3,
-    na: usize,
-    nb: usize,
-    nc: usize,
-    nd: usize,
-) -> Quad
-    requires { Ready (held w vertices.old triangles.old work.old) }
-    ensures { Numbered (quad_turned flip a b c d) a b c d
-        (held w vertices.old triangles.old work.old)
-        result vertices.new triangles.new work.new }
+// One cell: the quad p, or where flip says so with b and d exchanged. The numbers n are guesses at those of its points.
+fn weld_cell(w: &mut Welding<'_>, flip: bool, p: Four, n: FourNumbers) -> FourNumbers
+    requires { Ready (held_by w.old) }
+    ensures { WeldsQuad (quad_turned flip p.a p.b p.c p.d) p w.old w.new result }
 {
     if flip {
-        let q = weld_quad::weld_quad(vertices, triangles, work, w, a, d, c, b, na, nd, nc, nb);
-        let st = q.st;
-        return Quad {
-            st,
-            a: q.a,
-            b: q.d,
-            c: q.c,
-            d: q.b,
+        let q = Four {
+            a: p.a,
+            b: p.d,
+            c: p.c,
+            d: p.b,
+        };
+        let m = FourNumbers {
+            a: n.a,
+            b: n.d,
+            c: n.c,
+            d: n.b,
+        };
+        let r = weld_quad::weld_quad(w, q, m);
+        return FourNumbers {
+            a: r.a,
+            b: r.d,
+            c: r.c,
+            d: r.b,
         };
     }
-    weld_quad::weld_quad(vertices, triangles, work, w, a, b, c, d, na, nb, nc, nd)
+    weld_quad::weld_quad(w, p, n)
 }
 
-// The same. Where `known` is true, na and nb are the numbers of a and b, as after the cell before in a row. If the guess at d is right
-// as well, only c is tested for being finite, and looked up.
+// The same as `weld_cell`. Where `known` is true, the numbers of a and b are those of the points, as after the cell before in a row. If the guess
+// at d is right as well, only c is tested for being finite, and looked up.
 pub fn weld_in_row(
-    vertices: &mut [f64],
-    triangles: &mut [u32],
-    work: &mut [u32],
-    w: Welder,
+    w: &mut Welding<'_>,
     flip: bool,
     known: bool,
-    a: Vec3,
-    b: Vec3,
-    c: Vec3,
-    d: Vec3,
-    na: usize,
-    nb: usize,
-    nc: usize,
-    nd: usize,
-) -> Quad
-    requires ready { Ready (held w vertices.old triangles.old work.old) }
-    requires known { known ≡ true → Known w vertices.old a na × Known w vertices.old b nb }
-    ensures { Numbered (quad_turned flip a b c d) a b c d
-        (held w vertices.old triangles.old work.old)
-        result vertices.new triangles.new work.new }
+    p: Four,
+    n: FourNumbers,
+) -> FourNumbers
+    requires ready { Ready (held_by w.old) }
+    requires known { known ≡ true → Known w.old.st w.old.vertices.now p.a n.a × Known w.old.st w.old.vertices.now p.b n.b }
+    ensures { WeldsQuad (quad_turned flip p.a p.b p.c p.d) p w.old w.new result }
 {
-    let finite = w.finite;
-    let room = w.room;
-    if known & finite & room {
-        if weld_quad::is_vertex(vertices, w, nd, d) {
-            if math::is_finite(c) {
-                let second = pick(flip, nd, nb);
-                let fourth = pick(flip, nb, nd);
-                let t = weld_search::weld_point(vertices, work, w, weld::plus_zero(c), nc);
-                let st = t.st;
-                let u = weld_triangle::add_triangle(triangles, st, na, second, t.number);
-                let v = weld_triangle::add_triangle(triangles, u, na, t.number, fourth);
-                return Quad {
-                    st: v,
-                    a: na,
-                    b: nb,
-                    c: t.number,
-                    d: nd,
-                };
-            }
-        }
+    if known && w.st.finite && w.st.room && weld_quad::is_vertex(w, n.d, p.d) && p.c.is_finite() {
+        let second = pick(flip, n.d, n.b);
+        let fourth = pick(flip, n.b, n.d);
+        let c = weld_search::weld_point(w, weld::plus_zero(p.c), n.c);
+        weld_triangle::add_triangle(w, n.a, second, c);
+        weld_triangle::add_triangle(w, n.a, c, fourth);
+        return FourNumbers {
+            a: n.a,
+            b: n.b,
+            c,
+            d: n.d,
+        };
     }
-    weld_cell(
-        vertices, triangles, work, w, flip, a, b, c, d, na, nb, nc, nd,
-    )
+    weld_cell(w, flip, p, n)
 }
 
 // The number x where flip says so, or else y.

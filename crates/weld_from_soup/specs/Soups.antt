@@ -1,8 +1,7 @@
 -- A soup in a lent slice, nine floats a triangle, and what welding it answers. Definitions only.
 use Rattle.std.specs.Prelude.{Bool, not, cond, List, [], ◌∷◌, ℕ, ◌+◌, ◌*◌, ◌/◌, ◌%◌, length, eqb, Float}
 use Rattle.math.specs.declared.Vec3.{Vec3}
-use Rattle.refusal.specs.declared.Refusal.{Refusal}
-use Rattle.refusal.specs.declared.Refusal.TheVariants.{BadList, ShortWork}
+use Rattle.refusal.specs.Answer.{Answer, BadList, ShortWork}
 use Rattle.mesh_balance_spec.specs.Soup.{Tri}
 use Rattle.mesh_balance_spec.specs.Grid.{upto}
 use Rattle.mesh_spec.specs.Mesh.{from_soup}
@@ -28,7 +27,7 @@ unfoldable pub broken_soup : List Float → Bool
 broken_soup l = not (eqb (length l % 9) 0)
 
 -- the first refusal that is due: 6, then 4, then 5 and 7, the soup being one part
-unfoldable pub soup_refusal : List Float → Lent → Refusal
+unfoldable pub soup_refusal : List Float → Lent → Answer
 soup_refusal l n =
     cond (short_work n.vertices n.work) ShortWork
     (cond (broken_soup l) BadList

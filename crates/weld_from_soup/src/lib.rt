@@ -2,60 +2,39 @@
 #![tactic(auto)]
 
 ghost use Rattle.std.specs.Prelude.{[], ◌∷◌, ◌≡◌, ◌+◌, ◌*◌, ◌≤◌, length};
-ghost use Rattle.weld.specs.Rep.{held, Ready, Runs};
+ghost use Rattle.weld.specs.Rep.{Ready};
+ghost use Rattle.weld.specs.Welding.{held_by, Welds};
 ghost use Rattle.mesh_spec.specs.Mesh.{from_soup};
 ghost use Rattle.mesh_made.specs.Made.{lent};
 ghost use Rattle.mesh_made.specs.Steps.{Makes};
 ghost use Rattle.weld_from_soup.specs.Soups.{triangle_at, soup_of, broken_soup, soup_refusal};
 ghost use Rattle.weld_from_soup.specs.SoupPromise.{SoupPromise};
 
-use mesh_made::Made;
+use mesh_check::TriMesh;
 use mesh_triples::vertex;
 use refusal::Refusal;
-use weld::Welder;
+use weld::Welding;
 
 // Welds triangle i.
-fn weld_at(
-    vertices: &mut [f64],
-    triangles: &mut [u32],
-    work: &mut [u32],
-    w: Welder,
-    soup: &[f64],
-    i: usize,
-) -> Welder
-    requires ready { Ready (held w vertices.old triangles.old work.old) }
+fn weld_at(w: &mut Welding<'_>, soup: &[f64], i: usize)
+    requires ready { Ready (held_by w.old) }
     requires i_in_bounds { 9 * i + 9 ≤ length soup.now }
-    ensures { Runs (triangle_at soup.now i ∷ [])
-        (held w vertices.old triangles.old work.old)
-        (held result vertices.new triangles.new work.new) }
+    ensures { Welds (triangle_at soup.now i ∷ []) w.old w.new }
 {
     let a = vertex(soup, 3 * i);
     let b = vertex(soup, 3 * i + 1);
     let c = vertex(soup, 3 * i + 2);
-    weld_triangle::weld_triangle(vertices, triangles, work, w, a, b, c)
+    weld_triangle::weld_triangle(w, a, b, c);
 }
 
 // Welds the triangles of a soup.
-fn weld_each(
-    vertices: &mut [f64],
-    triangles: &mut [u32],
-    work: &mut [u32],
-    w: Welder,
-    soup: &[f64],
-) -> Welder
-    requires { Ready (held w vertices.old triangles.old work.old) }
-    ensures { Runs (soup_of soup.now)
-        (held w vertices.old triangles.old work.old)
-        (held result vertices.new triangles.new work.new) }
+fn weld_each(w: &mut Welding<'_>, soup: &[f64])
+    requires { Ready (held_by w.old) }
+    ensures { Welds (soup_of soup.now) w.old w.new }
 {
-    let n = soup.len() / 9;
-    let mut st = w;
-    let mut i = 0;
-    while i < n {
-        st = weld_at(vertices, triangles, work, st, soup, i);
-        i += 1;
+    for i in 0..soup.len() / 9 {
+        weld_at(w, soup, i);
     }
-    st
 }
 
 // Refusal 4: floats beyond whole triangles.
@@ -66,21 +45,34 @@ fn is_broken(soup: &[f64]) -> bool
 }
 
 // Welds a soup from an empty mesh, unless refusal 6 or 4 is due.
-fn make(soup: &[f64], vertices: &mut [f64], triangles: &mut [u32], work: &mut [u32]) -> Made
+fn make(
+    soup: &[f64],
+    vertices: &mut [f64],
+    triangles: &mut [u32],
+    work: &mut [u32],
+) -> Result<TriMesh, Refusal>
     ensures { Makes
         (soup_refusal soup.now (lent vertices.old triangles.old work.old))
         (from_soup (soup_of soup.now))
         result vertices.new triangles.new }
 {
     if mesh_made::short_work(vertices.len(), work.len()) {
-        return mesh_made::refused(Refusal::ShortWork);
+        return Err(Refusal::ShortWork);
     }
     if is_broken(soup) {
-        return mesh_made::refused(Refusal::BadList);
+        return Err(Refusal::BadList);
     }
-    let b = weld::begin(vertices, work);
-    let w = weld::new_part(weld_each(vertices, triangles, work, b, soup));
-    mesh_made::judge(w, vertices)
+    let st = weld::begin(vertices, work);
+    let mut w = Welding {
+        st,
+        vertices,
+        triangles,
+        work,
+    };
+    weld_each(&mut w, soup);
+    weld::new_part(&mut w);
+    let welded = w.st;
+    mesh_made::judge(welded, vertices)
 }
 
 // from_soup: the mesh of a soup, nine floats a triangle, in the lent slices, or a refusal: 6, 4, 5 or 7.
@@ -89,7 +81,7 @@ pub fn from_soup(
     vertices: &mut [f64],
     triangles: &mut [u32],
     work: &mut [u32],
-) -> Made
+) -> Result<TriMesh, Refusal>
     ensures { SoupPromise
         soup.now (lent vertices.old triangles.old work.old)
         result vertices.new triangles.new work.new }

@@ -15,13 +15,12 @@ use lib.Ieee.{Float}
 use Rattle.slice_law.specs.Bools.{not_both}
 use Rattle.math.specs.declared.Vec3.{Vec3}
 use Rattle.mesh_spec.specs.Mesh.{same_point}
-use Rattle.weld_hash.specs.declared.Found.{Found}
-use Rattle.weld_hash.specs.declared.Found.TheVariants.{At, Missing}
+use Rattle.std.specs.Prelude.{Some, None}
 use Rattle.mesh_spec.specs.Slices.{vertex_at}
 use Rattle.weld_vertex.specs.Points.{Clean}
 use Rattle.mesh_triples.specs.Triples.{put_vertex}
 use Rattle.weld_bucket.specs.Bucket.{bucket_of}
-use Rattle.weld_hash.specs.Hash.{latest, Distinct, Agrees, Chained, Indexed, linked_in, FirstAt, Sought, Placing}
+use Rattle.weld_hash.specs.Hash.{latest, Distinct, Agrees, Chained, Indexed, linked_in, FirstAt, Sought, Placed}
 use Rattle.weld_vertex.proofs.Clean.{same_data}
 use Rattle.weld_vertex.proofs.Places.{put_at, put_before, apart}
 
@@ -114,10 +113,10 @@ module _ (vs : List Float) (places base count : ℕ) (h : Distinct vs places bas
         first = λ j a r t. h.fresh j m a r i (ap (same_point (vertex_at vs j)) (same_data (vertex_at vs m) p (h.clean m i) cp s) ∙ t);
       }
 
-  pub walk_at : (k m : ℕ) → Walk vs places base count p k → k ≡ suc m → base < k → same_point (vertex_at vs m) p ≡ true → Sought vs base count p (At m)
+  pub walk_at : (k m : ℕ) → Walk vs places base count p k → k ≡ suc m → base < k → same_point (vertex_at vs m) p ≡ true → Sought vs base count p (Some m)
   walk_at k m w e l s = first_at m (omega arith) (omega arith) s
 
-  pub walk_end : (k : ℕ) → Walk vs places base count p k → k ≤ base → Sought vs base count p Missing
+  pub walk_end : (k : ℕ) → Walk vs places base count p k → k ≤ base → Sought vs base count p None
   walk_end k w l = λ m a i s. w.past m (le_trans l a) i a s
 
   module _ (ws : List ℕ) (c : Chained vs ws places base count) where
@@ -164,7 +163,7 @@ module _ (vs : List Float) (base count : ℕ) (p q : Vec3) (m : ℕ) (F : FirstA
       }
 
 -- the new vertex is found
-pub first_new : (vs : List Float) (base count : ℕ) (p : Vec3) → base ≤ count → 3 * count + 3 ≤ length vs → same_point p p ≡ true → Sought vs base count p Missing
+pub first_new : (vs : List Float) (base count : ℕ) (p : Vec3) → base ≤ count → 3 * count + 3 ≤ length vs → same_point p p ≡ true → Sought vs base count p None
     → FirstAt (put_vertex vs count p) base (count + 1) p count
 first_new vs base count p b l s miss =
     record {
@@ -189,7 +188,7 @@ module _ (vs : List Float) (places base count : ℕ) (h : Distinct vs places bas
       (λ w. subst Clean (sym (old m w)) (h.clean m w))
       (eq-or-lt_of_le {n = m} {m = count} (omega arith))
 
-  fresh' : Sought vs base count p Missing → (j m : ℕ) → base ≤ j → j < m → m < count + 1 → same_point (vertex_at (put_vertex vs count p) j) (vertex_at (put_vertex vs count p) m) ≡ true → ⊥
+  fresh' : Sought vs base count p None → (j m : ℕ) → base ≤ j → j < m → m < count + 1 → same_point (vertex_at (put_vertex vs count p) j) (vertex_at (put_vertex vs count p) m) ≡ true → ⊥
   fresh' miss j m g r k s =
       ⊎_elim
       (λ w. miss j g (omega arith) (sym (λ i. same_point (old j (subst (λ (x : ℕ). j < x) w r) i) (at_count w i)) ∙ s))
@@ -199,7 +198,7 @@ module _ (vs : List Float) (places base count : ℕ) (h : Distinct vs places bas
       at_count : m ≡ count → vertex_at (put_vertex vs count p) m ≡ p
       at_count w = ap (vertex_at (put_vertex vs count p)) w ∙ new
 
-  pub distinct_more : Clean p → Sought vs base count p Missing → Distinct (put_vertex vs count p) places base (count + 1)
+  pub distinct_more : Clean p → Sought vs base count p None → Distinct (put_vertex vs count p) places base (count + 1)
   distinct_more cp miss =
       record {
         room = simp length-set h.room;
@@ -295,22 +294,15 @@ chained_more vs ws places base count h c p lt b e bl =
 -- ---- the cases of `number_of`
 
 -- what was found, by its case
-pub told : {f g : Found} (vs : List Float) (base count : ℕ) (p : Vec3) → f ≡ g → Sought vs base count p f → Sought vs base count p g
-told vs base count p e F = subst (Sought vs base count p) e F
-
 module _ (places base count : ℕ) (p : Vec3) (vs : List Float) (ws : List ℕ) where
-  pub placing_found : (m : ℕ) → FirstAt vs base count p m → Placing places base count p vs ws m vs ws
-  placing_found m F =
-      record { found = λ l. (F, refl, refl); new = λ e. absurd (omega (arith, F.high)); full = λ l. absurd (omega (arith, F.high)) }
+  pub placing_found : (m : ℕ) → FirstAt vs base count p m → Placed places base count p vs ws m vs ws
+  placing_found m F = record { within = omega (arith, F.high); found = λ l. (F, refl, refl); new = λ e. absurd (omega (arith, F.high)) }
 
-  pub placing_new : (b : ℕ) → b ≡ bucket_of places p → b < places → Sought vs base count p Missing → count < places
-      → Placing places base count p vs ws count (put_vertex vs count p) (linked_in ws places count b)
+  pub placing_new : (b : ℕ) → b ≡ bucket_of places p → b < places → Sought vs base count p None → count < places
+      → Placed places base count p vs ws count (put_vertex vs count p) (linked_in ws places count b)
   placing_new b e l F k =
       record {
+        within = omega arith;
         found = λ r. absurd (omega arith);
         new = λ r. (F, k, subst (λ (x : ℕ). x < places) e l, refl, ap (linked_in ws places count) e);
-        full = λ r. absurd (omega arith);
       }
-
-  pub placing_full : Sought vs base count p Missing → places ≤ count → Placing places base count p vs ws (count + 1) vs ws
-  placing_full F k = record { found = λ r. absurd (omega arith); new = λ r. absurd (omega arith); full = λ r. (F, k, refl, refl) }

@@ -1,9 +1,7 @@
 -- The hash chains of the work slice, which stand for the `HashMap` of from_soup. Definitions only.
-use Rattle.std.specs.Prelude.{◌≡◌, true, cond, List, ℕ, zero, suc, ◌+◌, ◌*◌, ◌≤◌, ◌<◌, length, get_or, set, drop, eqb, Float}
+use Rattle.std.specs.Prelude.{◌≡◌, true, cond, List, ℕ, zero, suc, ◌+◌, ◌*◌, ◌≤◌, ◌<◌, length, get_or, set, drop, eqb, Float, Option, Some, None}
 use Rattle.math.specs.declared.Vec3.{Vec3}
 use Rattle.mesh_spec.specs.Mesh.{same_point}
-use Rattle.weld_hash.specs.declared.Found.{Found}
-use Rattle.weld_hash.specs.declared.Found.TheVariants.{At, Missing}
 use Rattle.mesh_spec.specs.Slices.{vertex_at}
 use Rattle.weld_vertex.specs.Points.{Clean}
 use Rattle.mesh_triples.specs.Triples.{put_vertex}
@@ -50,13 +48,18 @@ pub record FirstAt (vs : List Float) (base count : ℕ) (p : Vec3) (m : ℕ) : T
   pub first : (j : ℕ) → base ≤ j → j < m → same_point (vertex_at vs j) p ≡ true → ⊥
 
 -- what a look-up of p among the vertices from base below count answers: the first that equals p, or that none does
-abbrev pub Sought : List Float → ℕ → ℕ → Vec3 → Found → Type 0
-Sought vs base count p (At m) = FirstAt vs base count p m
-Sought vs base count p Missing = (m : ℕ) → base ≤ m → m < count → same_point (vertex_at vs m) p ≡ true → ⊥
+abbrev pub Sought : List Float → ℕ → ℕ → Vec3 → Option ℕ → Type 0
+Sought vs base count p (Some m) = FirstAt vs base count p m
+Sought vs base count p None = (m : ℕ) → base ≤ m → m < count → same_point (vertex_at vs m) p ≡ true → ⊥
 
--- p got the number m: it was found, and nothing changed; or it is new, and vertex `count`; or there was no place for it
-pub record Placing (places base count : ℕ) (p : Vec3) (vs : List Float) (ws : List ℕ) (m : ℕ) (vs' : List Float) (ws' : List ℕ) : Type 0 where
+-- p got the number m: it was found, and nothing changed; or it is new, and vertex `count`
+pub record Placed (places base count : ℕ) (p : Vec3) (vs : List Float) (ws : List ℕ) (m : ℕ) (vs' : List Float) (ws' : List ℕ) : Type 0 where
+  pub within : m ≤ count
   pub found : m < count → FirstAt vs base count p m × (vs' ≡ vs) × (ws' ≡ ws)
-  pub new : m ≡ count → Sought vs base count p Missing × (count < places) × (bucket_of places p < places)
+  pub new : m ≡ count → Sought vs base count p None × (count < places) × (bucket_of places p < places)
       × (vs' ≡ put_vertex vs count p) × (ws' ≡ linked_in ws places count (bucket_of places p))
-  pub full : count < m → Sought vs base count p Missing × (places ≤ count) × (vs' ≡ vs) × (ws' ≡ ws)
+
+-- p got a number, or there was no place for it
+abbrev pub Placing : ℕ → ℕ → ℕ → Vec3 → List Float → List ℕ → Option ℕ → List Float → List ℕ → Type 0
+Placing places base count p vs ws (Some m) vs' ws' = Placed places base count p vs ws m vs' ws'
+Placing places base count p vs ws None vs' ws' = Sought vs base count p None × (places ≤ count) × (vs' ≡ vs) × (ws' ≡ ws)

@@ -8,21 +8,8 @@ ghost use Rattle.weld_hash.specs.Hash.{Distinct, Chained, Indexed, linked_in, So
 
 use math::Vec3;
 
-// What a look-up finds: the number of a vertex, or none.
-#[derive(Clone, Copy)]
-pub enum Found {
-    At(usize),
-    Missing,
-}
-
-// A number of 32 bits as one of 64.
-fn wide(x: u32) -> usize
-    ensures { result ≡ x }
-{
-    x as usize
-}
-
 // The first of the vertices from `base` below `count` that equals p. Vertices below `base` are of earlier parts.
+// places, base and count are fields of weld::Welder, which lies above: a struct of the three here would be made anew at each look-up.
 fn find(
     vertices: &[f64],
     work: &[u32],
@@ -31,20 +18,21 @@ fn find(
     count: usize,
     bucket: usize,
     p: Vec3,
-) -> Found
+) -> Option<usize>
     requires distinct { Distinct vertices.now places base count × Chained vertices.now work.now places base count }
     requires bucket_value { (bucket ≡ bucket_of places p) × (bucket < places) × Clean p }
     ensures { Sought vertices.now base count p result }
 {
-    let mut k = wide(work[bucket]);
+    let mut k = work[bucket] as usize;
+    // A `while`: each entry of the chain tells the next, so no range counts them; an iterator of the chain would be this loop and a type for it.
     while base < k {
         let m = k - 1;
         if weld_vertex::equal(mesh_triples::vertex(vertices, m), p) {
-            return Found::At(m);
+            return Some(m);
         }
-        k = wide(work[places + m]);
+        k = work[places + m] as usize;
     }
-    Found::Missing
+    None
 }
 
 // Puts vertex m at the head of its bucket.
@@ -62,20 +50,18 @@ pub fn index(vertices: &[f64], work: &mut [u32], places: usize, base: usize, cou
     requires { Distinct vertices.now places base count × (places < 2 ^ 32) × Chained vertices.now work.old places base base }
     ensures { Indexed vertices.now work.old places base count work.new }
 {
-    let mut m = base;
-    while m < count {
+    for m in base..count {
         link(
             work,
             places,
             m,
             weld_bucket::bucket_of(mesh_triples::vertex(vertices, m), places),
         );
-        m += 1;
     }
 }
 
 // The number of p: that of the first of the vertices from `base` below `count` that equals it; or `count`, with which it is
-// written; or `count + 1` where no place is left. All these vertices are in their buckets, and a new one is put there. The caller has
+// written; or none where no place is left. All these vertices are in their buckets, and a new one is put there. The caller has
 // worked out the bucket of p.
 pub fn number_of(
     vertices: &mut [f64],
@@ -85,22 +71,18 @@ pub fn number_of(
     count: usize,
     bucket: usize,
     p: Vec3,
-) -> usize
+) -> Option<usize>
     requires distinct { Distinct vertices.old places base count × Chained vertices.old work.old places base count }
     requires bucket_value { (bucket ≡ bucket_of places p) × (bucket < places) × (places < 2 ^ 32) × Clean p }
     ensures { Placing places base count p vertices.old work.old result vertices.new work.new }
 {
-    let found = find(vertices, work, places, base, count, bucket, p);
-    match found {
-        Found::At(m) => m,
-        Found::Missing => {
-            if count < places {
-                mesh_triples::put_vertex(vertices, count, p);
-                link(work, places, count, bucket);
-                count
-            } else {
-                count + 1
-            }
+    match find(vertices, work, places, base, count, bucket, p) {
+        Some(m) => Some(m),
+        None if count < places => {
+            mesh_triples::put_vertex(vertices, count, p);
+            link(work, places, count, bucket);
+            Some(count)
         }
+        None => None,
     }
 }

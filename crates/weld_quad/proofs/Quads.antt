@@ -20,27 +20,29 @@ use Rattle.weld_hash.specs.Hash.{Distinct, FirstAt}
 use Rattle.slice_law.specs.Bools.{not_both}
 use Rattle.weld_hash.proofs.Chains.{first_at}
 use Rattle.weld.specs.declared.Welder.{Welder}
-use Rattle.weld_search.specs.declared.Welded.{Welded}
+use Rattle.weld.specs.declared.Welding.{Welding}
+use Rattle.weld.specs.declared.Four.{Four}
+use Rattle.weld.specs.declared.FourNumbers.{FourNumbers}
+use Rattle.weld.specs.Welding.{same_refl, same_then, held_by}
 use Rattle.weld.specs.Rep.{Held, held, Linked, Ready, Rep, Runs}
 use Rattle.weld.specs.States.{unfinite}
-use Rattle.weld_search.specs.Search.{PointRuns}
-use Rattle.weld_triangle.specs.Steps.{weld_points, TriangleRuns, PointsRun}
+use Rattle.weld_search.specs.Search.{WeldsPoint}
+use Rattle.weld_triangle.specs.Steps.{weld_points, PointsRun, WeldsNumbers}
 use Rattle.weld.proofs.Places.{places_limit}
-use Rattle.weld_search.proofs.Point.{point_known}
-use Rattle.weld_triangle.proofs.Triangle.{and_false, linked_moved, points_run}
-use Rattle.weld_quad.specs.declared.Quad.{Quad}
-use Rattle.weld_quad.specs.Quads.{Given, Known, Numbered, QuadRuns, CornersRun, quad_with, LastRuns}
+use Rattle.weld_search.proofs.Point.{point_known, slices_kept}
+use Rattle.weld_triangle.proofs.Triangle.{and_false, linked_after, points_run}
+use Rattle.weld_quad.specs.Quads.{Given, Known, Numbered, WeldsQuad, QuadRuns, CornersRun, WeldsCorners, LastRuns}
 
 -- ---- the triangles a, b, c and a, c, d
-pub quad_points : (a b c d : Vec3) (h m k : Held) → PointsRun a b c h m → PointsRun a c d m k → QuadRuns a b c d h k
-quad_points a b c d h m k P Q =
+pub quad_points : (p : Four) (h m k : Held) → PointsRun p.a p.b p.c h m → PointsRun p.a p.c p.d m k → QuadRuns p h k
+quad_points p h m k P Q =
     record {
       ready = Q.ready;
       vlong = Q.vlong ∙ P.vlong;
       tlong = Q.tlong ∙ P.tlong;
       wlong = Q.wlong ∙ P.wlong;
       finite = Q.finite ∙ P.finite;
-      rep = λ D S R. Q.rep D (weld_points S a b c) (P.rep D S R);
+      rep = λ D S R. Q.rep D (weld_points S p.a p.b p.c) (P.rep D S R);
     }
 
 quad_finite : (x y z w : Bool) → (x && y && z && (x && z && w && true)) ≡ (x && y && z && w)
@@ -94,15 +96,14 @@ known_stopped w vs p m f = record { finite = λ e. absurd (not_both w.finite e f
 pub known_small : (w : Welder) (vs : List Float) (ws : List ℕ) (p : Vec3) (m : ℕ) → Linked w vs ws → w.finite ≡ true → w.room ≡ true → Known w vs p m → m < 2 ^ 32
 known_small w vs ws p m L f r K = omega (arith, (K.first f r).high, L.places, places_limit vs, L.distinct.fits)
 
-pub numbered_stopped : (soup : List (Tri Vec3)) (a b c d : Vec3) (h : Held) (q : Quad) (vs : List Float) (ts ws : List ℕ) → q.st.finite ≡ false → Runs soup h (held q.st vs ts ws)
-    → Numbered soup a b c d h q vs ts ws
-numbered_stopped soup a b c d h q vs ts ws f R =
+pub numbered_stopped : (soup : List (Tri Vec3)) (p : Four) (h k : Held) (n : FourNumbers) → k.st.finite ≡ false → Runs soup h k → Numbered soup p h k n
+numbered_stopped soup p h k n f R =
     record {
       runs = R;
-      known_a = known_stopped q.st vs a q.a f;
-      known_b = known_stopped q.st vs b q.b f;
-      known_c = known_stopped q.st vs c q.c f;
-      known_d = known_stopped q.st vs d q.d f;
+      known_a = known_stopped k.st k.vertices p.a n.a f;
+      known_b = known_stopped k.st k.vertices p.b n.b f;
+      known_c = known_stopped k.st k.vertices p.c n.c f;
+      known_d = known_stopped k.st k.vertices p.d n.d f;
     }
 
 -- ---- all points are finite
@@ -110,83 +111,101 @@ and_true : (v x : Bool) → x ≡ true → v ≡ (v && x)
 and_true true x e = sym e
 and_true false x e = refl
 
-pub quad_runs : (a b c d a' b' c' d' : Vec3) (h k : Held) → v_finite a ≡ true → v_finite b ≡ true → v_finite c ≡ true → v_finite d ≡ true
-    → a' ≡ plus_zero_v a → b' ≡ plus_zero_v b → c' ≡ plus_zero_v c → d' ≡ plus_zero_v d → QuadRuns a' b' c' d' h k → Runs (quad a b c d) h k
+-- q are the points p after `+ 0.0`
+pub record Zeroed (p q : Four) : Type 0 where
+  pub a : q.a ≡ plus_zero_v p.a
+  pub b : q.b ≡ plus_zero_v p.b
+  pub c : q.c ≡ plus_zero_v p.c
+  pub d : q.d ≡ plus_zero_v p.d
+
+-- all four points are finite
+pub record AllFinite (p : Four) : Type 0 where
+  pub a : v_finite p.a ≡ true
+  pub b : v_finite p.b ≡ true
+  pub c : v_finite p.c ≡ true
+  pub d : v_finite p.d ≡ true
+
+pub quad_runs : (p q : Four) (h k : Held) → AllFinite p → Zeroed p q → QuadRuns q h k → Runs (quad p.a p.b p.c p.d) h k
 unfolding every_finite weld_soup weld_triangle weld_points
-quad_runs a b c d a' b' c' d' h k fa fb fc fd ea eb ec ed P =
+quad_runs p q h k F Z P =
     record {
       ready = P.ready;
       vlong = P.vlong;
       tlong = P.tlong;
       wlong = P.wlong;
-      finite = P.finite ∙ and_true h.st.finite (every_finite (quad a b c d)) (quad_finite (v_finite a) (v_finite b) (v_finite c) (v_finite d) ∙ (λ i. fa i && fb i && fc i && fd i));
-      rep = λ e D S Q. subst (λ (M : Mesh). Rep D M k) (λ i. weld_points (weld_points S (ea i) (eb i) (ec i)) (ea i) (ec i) (ed i)) (P.rep D S Q);
+      finite = P.finite ∙ and_true h.st.finite (every_finite (quad p.a p.b p.c p.d)) (quad_finite (v_finite p.a) (v_finite p.b) (v_finite p.c) (v_finite p.d) ∙ (λ i. F.a i && F.b i && F.c i && F.d i));
+      rep = λ e D S Q. subst (λ (M : Mesh). Rep D M k) (λ i. weld_points (weld_points S (Z.a i) (Z.b i) (Z.c i)) (Z.a i) (Z.c i) (Z.d i)) (P.rep D S Q);
     }
 
 known_given : (w : Welder) (vs : List Float) (p p' : Vec3) (m : ℕ) → v_finite p ≡ true → p' ≡ plus_zero_v p → Given w vs p' m → Known w vs p m
 known_given w vs p p' m f e G = record { finite = λ _ _. f; first = λ _ r. subst (λ (v : Vec3). FirstAt vs w.base w.count v m) e (G r) }
 
-pub quad_numbered : (a b c d a' b' c' d' : Vec3) (h : Held) (q : Quad) (vs : List Float) (ts ws : List ℕ) → v_finite a ≡ true → v_finite b ≡ true → v_finite c ≡ true → v_finite d ≡ true
-    → a' ≡ plus_zero_v a → b' ≡ plus_zero_v b → c' ≡ plus_zero_v c → d' ≡ plus_zero_v d → CornersRun a' b' c' d' h q vs ts ws → Numbered (quad a b c d) a b c d h q vs ts ws
-quad_numbered a b c d a' b' c' d' h q vs ts ws fa fb fc fd ea eb ec ed P =
+pub quad_numbered : (p q : Four) (h k : Held) (n : FourNumbers) → AllFinite p → Zeroed p q → CornersRun q h k n → Numbered (quad p.a p.b p.c p.d) p h k n
+quad_numbered p q h k n F Z P =
     record {
-      runs = quad_runs a b c d a' b' c' d' h (held q.st vs ts ws) fa fb fc fd ea eb ec ed P.runs;
-      known_a = known_given q.st vs a a' q.a fa ea P.given_a;
-      known_b = known_given q.st vs b b' q.b fb eb P.given_b;
-      known_c = known_given q.st vs c c' q.c fc ec P.given_c;
-      known_d = known_given q.st vs d d' q.d fd ed P.given_d;
+      runs = quad_runs p q h k F Z P.runs;
+      known_a = known_given k.st k.vertices p.a q.a n.a F.a Z.a P.given_a;
+      known_b = known_given k.st k.vertices p.b q.b n.b F.b Z.b P.given_b;
+      known_c = known_given k.st k.vertices p.c q.c n.c F.c Z.c P.given_c;
+      known_d = known_given k.st k.vertices p.d q.d n.d F.d Z.d P.given_d;
     }
 
 -- ---- each point of a quad gets its number
-pub first_moved : {vs : List Float} {p : Vec3} {m : ℕ} (w r : Welder) → r.base ≡ w.base → r.count ≡ w.count → FirstAt vs w.base w.count p m → FirstAt vs r.base r.count p m
-first_moved w r b c F = rw (b, c) F
 
-pub both_runs : (a b c d : Vec3) (w : Welder) (vs : List Float) (ts ws : List ℕ) (pa : Welded) (vs₁ : List Float) (ws₁ : List ℕ) (pb : Welded) (vs₂ : List Float) (ws₂ : List ℕ)
-    (pc : Welded) (vs₃ : List Float) (ws₃ : List ℕ) (u : Welder) (ts₁ : List ℕ) (pd : Welded) (vs₄ : List Float) (ws₄ : List ℕ) (v : Welder) (ts₂ : List ℕ)
-    → PointRuns a w vs ws pa vs₁ ws₁ → PointRuns b pa.st vs₁ ws₁ pb vs₂ ws₂ → PointRuns c pb.st vs₂ ws₂ pc vs₃ ws₃
-    → TriangleRuns pa.number pb.number pc.number pc.st ts u ts₁ → PointRuns d u vs₃ ws₃ pd vs₄ ws₄ → TriangleRuns pa.number pc.number pd.number pd.st ts₁ v ts₂
-    → length vs₃ ≡ length vs → length vs₄ ≡ length vs₃ → length ts₁ ≡ length ts → length ts₂ ≡ length ts₁ → length ws₃ ≡ length ws → length ws₄ ≡ length ws₃
-    → CornersRun a b c d (held w vs ts ws) (record { st = v; a = pa.number; b = pb.number; c = pc.number; d = pd.number }) vs₄ ts₂ ws₄
-both_runs a b c d w vs ts ws pa vs₁ ws₁ pb vs₂ ws₂ pc vs₃ ws₃ u ts₁ pd vs₄ ws₄ v ts₂ A B C T₁ E T₂ lv lv₂ lt lt₂ lw lw₂ =
-    let L₁ = linked_moved pc.st u T₁.base T₁.count T₁.places T₁.ordered T₁.row C.linked in
-    let ga : Given u vs₃ a pa.number =
-    λ q. first_moved pc.st u T₁.base T₁.count
-    (C.stays (T₁.sticky q) a pa.number (B.stays (C.sticky (T₁.sticky q)) a pa.number (A.here (B.sticky (C.sticky (T₁.sticky q)))))) in
-    let gb : Given u vs₃ b pb.number =
-    λ q. first_moved pc.st u T₁.base T₁.count (C.stays (T₁.sticky q) b pb.number (B.here (C.sticky (T₁.sticky q)))) in
-    let gc : Given u vs₃ c pc.number = λ q. first_moved pc.st u T₁.base T₁.count (C.here (T₁.sticky q)) in
-    let on : (p : Vec3) (m : ℕ) → Given u vs₃ p m → Given v vs₄ p m =
-    λ p m G q. first_moved pd.st v T₂.base T₂.count (E.stays (T₂.sticky q) p m (G (E.sticky (T₂.sticky q)))) in
+-- what is given stays so over another point
+pub given_on : {p q : Vec3} {m n : ℕ} {w r : Welding} → WeldsPoint p w r n → Given w.st w.vertices.now q m → Given r.st r.vertices.now q m
+given_on {q} {m} P G e = P.runs.stays e q m (G (P.runs.sticky e))
+
+-- and over a triangle of numbers
+pub given_over : {a b c m : ℕ} {p : Vec3} {w r : Welding} → WeldsNumbers a b c w r → Given w.st w.vertices.now p m → Given r.st r.vertices.now p m
+given_over T G e = rw (T.vertices, T.runs.base, T.runs.count) (G (T.runs.sticky e))
+
+-- a point that has its number already
+pub point_again : {w : Welding} (p : Vec3) (n : ℕ) → Linked w.st w.vertices.now w.work.now → n < 2 ^ 32 → Given w.st w.vertices.now p n → WeldsPoint p w w n
+point_again {w} p n L l G = record { slices = slices_kept w; runs = point_known w.st w.vertices.now w.work.now p n L l G }
+
+-- three points and a triangle, then the fourth and another triangle
+pub both_runs : (p : Four) (n : FourNumbers) {w wa wb wc u wd r : Welding} → WeldsPoint p.a w wa n.a → WeldsPoint p.b wa wb n.b → WeldsPoint p.c wb wc n.c
+    → WeldsNumbers n.a n.b n.c wc u → WeldsPoint p.d u wd n.d → WeldsNumbers n.a n.c n.d wd r → CornersRun p (held_by w) (held_by r) n
+both_runs p n {w} {u} {r} A B C T₁ E T₂ =
+    let L = linked_after T₁ C.runs.linked in
+    let ga = given_over T₁ (given_on C (given_on B A.runs.here)) in
+    let gb = given_over T₁ (given_on C B.runs.here) in
+    let gc = given_over T₁ C.runs.here in
     record {
-      runs = quad_points a b c d (held w vs ts ws) (held u vs₃ ts₁ ws₃) (held v vs₄ ts₂ ws₄)
-          (points_run a b c w vs ts ws pa vs₁ ws₁ pb vs₂ ws₂ pc vs₃ ws₃ u ts₁ A B C T₁ lv lt lw)
-          (points_run a c d u vs₃ ts₁ ws₃ (record { number = pa.number; st = u }) vs₃ ws₃ (record { number = pc.number; st = u }) vs₃ ws₃ pd vs₄ ws₄ v ts₂
-          (point_known u vs₃ ws₃ a pa.number L₁ A.small ga) (point_known u vs₃ ws₃ c pc.number L₁ C.small gc) E T₂ lv₂ lt₂ lw₂);
-      given_a = on a pa.number ga;
-      given_b = on b pb.number gb;
-      given_c = on c pc.number gc;
-      given_d = λ q. first_moved pd.st v T₂.base T₂.count (E.here (T₂.sticky q));
+      runs = quad_points p (held_by w) (held_by u) (held_by r) (points_run p.a p.b p.c A B C T₁)
+          (points_run p.a p.c p.d (point_again p.a n.a L A.runs.small ga) (point_again p.c n.c L C.runs.small gc) E T₂);
+      given_a = given_over T₂ (given_on E ga);
+      given_b = given_over T₂ (given_on E gb);
+      given_c = given_over T₂ (given_on E gc);
+      given_d = given_over T₂ E.runs.here;
+    }
+
+pub both_welded : (p : Four) (n : FourNumbers) {w wa wb wc u wd r : Welding} → WeldsPoint p.a w wa n.a → WeldsPoint p.b wa wb n.b → WeldsPoint p.c wb wc n.c
+    → WeldsNumbers n.a n.b n.c wc u → WeldsPoint p.d u wd n.d → WeldsNumbers n.a n.c n.d wd r → WeldsCorners p w r n
+both_welded p n A B C T₁ E T₂ =
+    record {
+      same = same_then A.slices.same (same_then B.slices.same (same_then C.slices.same (same_then T₁.same (same_then E.slices.same T₂.same))));
+      corners = both_runs p n A B C T₁ E T₂;
     }
 
 -- ---- a quad of which only c is looked up
-module _ (w : Welder) (vs : List Float) (ts ws : List ℕ) (R : Ready (held w vs ts ws)) (f : w.finite ≡ true) (e : w.room ≡ true) where
-  pub last_runs : (c c' : Vec3) (na nb nd : ℕ) (t : Welded) (vs' : List Float) (ws' : List ℕ) (u : Welder) (ts₁ : List ℕ) (v : Welder) (ts₂ : List ℕ)
-      → v_finite c ≡ true → c' ≡ plus_zero_v c
-      → PointRuns c' w vs ws t vs' ws' → TriangleRuns na nb t.number t.st ts u ts₁ → TriangleRuns na t.number nd u ts₁ v ts₂
-      → length vs' ≡ length vs → length ts₁ ≡ length ts → length ts₂ ≡ length ts₁ → length ws' ≡ length ws → na < 2 ^ 32 → nb < 2 ^ 32 → nd < 2 ^ 32
-      → LastRuns c na nb nd (held w vs ts ws) (record { number = t.number; st = v }) vs' ts₂ ws'
-  last_runs c c' na nb nd t vs' ws' u ts₁ v ts₂ fc ec P T₁ T₂ lv lt lt₂ lw sa sb sd a b d A B D =
-      let L₁ = linked_moved t.st u T₁.base T₁.count T₁.places T₁.ordered T₁.row P.linked in
-      quad_numbered a b c d (plus_zero_v a) (plus_zero_v b) c' (plus_zero_v d) (held w vs ts ws) (quad_with (record { number = t.number; st = v }) na nb nd) vs' ts₂ ws'
-      (A.finite f e) (B.finite f e) fc (D.finite f e) refl refl ec refl
-      (both_runs (plus_zero_v a) (plus_zero_v b) c' (plus_zero_v d) w vs ts ws (record { number = na; st = w }) vs ws (record { number = nb; st = w }) vs ws t vs' ws' u ts₁
-      (record { number = nd; st = u }) vs' ws' v ts₂
-      (point_known w vs ws (plus_zero_v a) na R.linked sa (A.first f)) (point_known w vs ws (plus_zero_v b) nb R.linked sb (B.first f)) P T₁
-      (point_known u vs' ws' (plus_zero_v d) nd L₁ sd (λ q. first_moved t.st u T₁.base T₁.count (P.stays (T₁.sticky q) (plus_zero_v d) nd (D.first f e))))
-      T₂ lv refl lt lt₂ lw refl)
+pub last_runs : (c c' : Vec3) (na nb nd : ℕ) {w wc u r : Welding} {nc : ℕ} → Ready (held_by w) → w.st.finite ≡ true → w.st.room ≡ true → v_finite c ≡ true → c' ≡ plus_zero_v c
+    → WeldsPoint c' w wc nc → WeldsNumbers na nb nc wc u → WeldsNumbers na nc nd u r → na < 2 ^ 32 → nb < 2 ^ 32 → nd < 2 ^ 32
+    → LastRuns c na nb nd (held_by w) (held_by r) nc
+last_runs c c' na nb nd {w} {r} {nc} R f e fc ec P T₁ T₂ sa sb sd a b d A B D =
+    let p : Four = record { a = a; b = b; c = c; d = d } in
+    let q : Four = record { a = plus_zero_v a; b = plus_zero_v b; c = c'; d = plus_zero_v d } in
+    let n : FourNumbers = record { a = na; b = nb; c = nc; d = nd } in
+    let L = linked_after T₁ P.runs.linked in
+    quad_numbered p q (held_by w) (held_by r) n
+    (record { a = A.finite f e; b = B.finite f e; c = fc; d = D.finite f e })
+    (record { a = refl; b = refl; c = ec; d = refl })
+    (both_runs q n (point_again q.a na R.linked sa (A.first f)) (point_again q.b nb R.linked sb (B.first f)) P T₁
+    (point_again q.d nd L sd (given_over T₁ (given_on P (D.first f)))) T₂)
 
-pub last_stops : (w : Welder) (vs : List Float) (ts ws : List ℕ) → Ready (held w vs ts ws) → (c : Vec3) (na nb nd : ℕ) → v_finite c ≡ false
-    → LastRuns c na nb nd (held w vs ts ws) (record { number = 0; st = unfinite w }) vs ts ws
-last_stops w vs ts ws R c na nb nd n a b d A B D =
-    numbered_stopped (quad a b c d) a b c d (held w vs ts ws) (quad_with (record { number = 0; st = unfinite w }) na nb nd) vs ts ws refl
+pub last_stops : (w : Welder) (vs : List Float) (ts ws : List ℕ) → Ready (held w vs ts ws) → (c : Vec3) (na nb nd nc : ℕ) → v_finite c ≡ false
+    → LastRuns c na nb nd (held w vs ts ws) (held (unfinite w) vs ts ws) nc
+last_stops w vs ts ws R c na nb nd nc n a b d A B D =
+    numbered_stopped (quad a b c d) (record { a = a; b = b; c = c; d = d }) (held w vs ts ws) (held (unfinite w) vs ts ws) (record { a = na; b = nb; c = nc; d = nd }) refl
     (quad_stops w vs ts ws a b c d R (one_false (v_finite a) (v_finite b) (v_finite c) (v_finite d) (inr n)))

@@ -8,10 +8,12 @@ use Rattle.mesh_spec.specs.Mesh.{Mesh, plus_zero_v}
 use Rattle.weld_vertex.specs.Points.{is_at}
 use Rattle.weld_hash.specs.Hash.{FirstAt}
 use Rattle.weld.specs.declared.Welder.{Welder}
+use Rattle.weld.specs.declared.Welding.{Welding}
+use Rattle.weld.specs.declared.Four.{Four}
+use Rattle.weld.specs.declared.FourNumbers.{FourNumbers}
 use Rattle.weld.specs.Rep.{Held, held, Ready, Rep, Runs}
-use Rattle.weld_search.specs.declared.Welded.{Welded}
+use Rattle.weld.specs.Welding.{SameSlices, held_by}
 use Rattle.weld_triangle.specs.Steps.{weld_points}
-use Rattle.weld_quad.specs.declared.Quad.{Quad}
 
 -- m is a vertex of this part, and p equals it
 abbrev pub is_vertex : Welder → List Float → Vec3 → ℕ → Bool
@@ -26,37 +28,48 @@ pub record Known (w : Welder) (vs : List Float) (p : Vec3) (m : ℕ) : Type 0 wh
   pub finite : w.finite ≡ true → w.room ≡ true → v_finite p ≡ true
   pub first : w.finite ≡ true → Given w vs (plus_zero_v p) m
 
--- a soup of the points a, b, c and d was welded, and the numbers of q are theirs
-pub record Numbered (soup : List (Tri Vec3)) (a b c d : Vec3) (h : Held) (q : Quad) (vs : List Float) (ts ws : List ℕ) : Type 0 where
-  pub runs : Runs soup h (held q.st vs ts ws)
-  pub known_a : Known q.st vs a q.a
-  pub known_b : Known q.st vs b q.b
-  pub known_c : Known q.st vs c q.c
-  pub known_d : Known q.st vs d q.d
+-- a soup of the points p was welded, and the numbers n are theirs
+pub record Numbered (soup : List (Tri Vec3)) (p : Four) (h k : Held) (n : FourNumbers) : Type 0 where
+  pub runs : Runs soup h k
+  pub known_a : Known k.st k.vertices p.a n.a
+  pub known_b : Known k.st k.vertices p.b n.b
+  pub known_c : Known k.st k.vertices p.c n.c
+  pub known_d : Known k.st k.vertices p.d n.d
+
+-- the same, in the same slices
+pub record WeldsQuad (soup : List (Tri Vec3)) (p : Four) (w r : Welding) (n : FourNumbers) : Type 0 where
+  pub same : SameSlices w r
+  pub numbered : Numbered soup p (held_by w) (held_by r) n
 
 -- the points of a quad's two triangles, which came out of `+ 0.0`, were welded
-pub record QuadRuns (a b c d : Vec3) (h k : Held) : Type 0 where
+pub record QuadRuns (p : Four) (h k : Held) : Type 0 where
   pub ready : Ready k
   pub vlong : length k.vertices ≡ length h.vertices
   pub tlong : length k.triangles ≡ length h.triangles
   pub wlong : length k.work ≡ length h.work
   pub finite : k.st.finite ≡ h.st.finite
-  pub rep : (D S : Mesh) → Rep D S h → Rep D (weld_points (weld_points S a b c) a c d) k
+  pub rep : (D S : Mesh) → Rep D S h → Rep D (weld_points (weld_points S p.a p.b p.c) p.a p.c p.d) k
 
--- the same, and the numbers of q are theirs
-pub record CornersRun (a b c d : Vec3) (h : Held) (q : Quad) (vs : List Float) (ts ws : List ℕ) : Type 0 where
-  pub runs : QuadRuns a b c d h (held q.st vs ts ws)
-  pub given_a : Given q.st vs a q.a
-  pub given_b : Given q.st vs b q.b
-  pub given_c : Given q.st vs c q.c
-  pub given_d : Given q.st vs d q.d
+-- the same, and the numbers n are theirs
+pub record CornersRun (p : Four) (h k : Held) (n : FourNumbers) : Type 0 where
+  pub runs : QuadRuns p h k
+  pub given_a : Given k.st k.vertices p.a n.a
+  pub given_b : Given k.st k.vertices p.b n.b
+  pub given_c : Given k.st k.vertices p.c n.c
+  pub given_d : Given k.st k.vertices p.d n.d
 
--- a quad of which a, b and d have the numbers na, nb and nd, and c got the number of t
-abbrev pub quad_with : Welded → ℕ → ℕ → ℕ → Quad
-quad_with t na nb nd = record { st = t.st; a = na; b = nb; c = t.number; d = nd }
+-- the same, in the same slices
+pub record WeldsCorners (p : Four) (w r : Welding) (n : FourNumbers) : Type 0 where
+  pub same : SameSlices w r
+  pub corners : CornersRun p (held_by w) (held_by r) n
 
--- a quad of which all points but c were known was welded
-abbrev pub LastRuns : Vec3 → ℕ → ℕ → ℕ → Held → Welded → List Float → List ℕ → List ℕ → Type 0
-LastRuns c na nb nd h t vs ts ws =
+-- a quad of which all points but c were known was welded: a, b and d have the numbers na, nb and nd, and c got the number nc
+abbrev pub LastRuns : Vec3 → ℕ → ℕ → ℕ → Held → Held → ℕ → Type 0
+LastRuns c na nb nd h k nc =
     (a b d : Vec3) → Known h.st h.vertices a na → Known h.st h.vertices b nb → Known h.st h.vertices d nd
-    → Numbered (quad a b c d) a b c d h (quad_with t na nb nd) vs ts ws
+    → Numbered (quad a b c d) (record { a = a; b = b; c = c; d = d }) h k (record { a = na; b = nb; c = nc; d = nd })
+
+-- the same, in the same slices
+pub record WeldsLast (c : Vec3) (na nb nd : ℕ) (w r : Welding) (nc : ℕ) : Type 0 where
+  pub same : SameSlices w r
+  pub last : LastRuns c na nb nd (held_by w) (held_by r) nc

@@ -16,18 +16,19 @@ use Rattle.mesh_spec.specs.Slices.{flat_v, vertex_at}
 use Rattle.mesh_spec.specs.SliceLaws.{flatV_append}
 use Rattle.mesh_spec.specs.WeldLaws.{with_seen, with_new, with_longer}
 use Rattle.mesh_spec.proofs.WeldLawsHeld.{sight_at, sight_none}
-use Rattle.weld_hash.specs.declared.Found.TheVariants.{Missing}
+use Rattle.std.specs.Prelude.{None}
+use Rattle.weld_order.specs.declared.Row.{Row}
 use Rattle.weld.specs.declared.Welder.{Welder}
-use Rattle.weld.specs.declared.Foreseen.{Foreseen}
+use Rattle.weld.specs.declared.Welding.{Welding}
+use Rattle.weld.specs.Welding.{same_refl, same_then}
 use Rattle.weld_vertex.specs.Points.{Clean}
 use Rattle.mesh_triples.specs.Triples.{put_vertex}
 use Rattle.weld_bucket.specs.Bucket.{bucket_of}
 use Rattle.weld_hash.specs.Hash.{Chained, linked_in, FirstAt, Sought}
 use Rattle.weld_order.specs.Rows.{among}
 use Rattle.weld.specs.Rep.{Held, held, InRow, indexed, Linked, Holds, Over, Rep}
-use Rattle.weld.specs.States.{shut, more, row_seen, settled, Foresees}
-use Rattle.weld_search.specs.declared.Welded.{Welded}
-use Rattle.weld_search.specs.Search.{with_vertex, BucketOrNone, PointRuns}
+use Rattle.weld.specs.States.{shut, more_at, no_row, settled, Fresh}
+use Rattle.weld_search.specs.Search.{with_vertex, PointRuns, PointSlices, WeldsPoint}
 use Rattle.weld.proofs.Places.{take_three, take_vertex, flatV_at, places_limit, places_long}
 use Rattle.weld_vertex.proofs.Clean.{clean_self}
 use Rattle.weld_vertex.proofs.Places.{put_at, put_before}
@@ -58,7 +59,7 @@ module _ (us ws : List Vec3) (vs : List Float) (count : ℕ) (front : flat_v (us
       (λ j r t. F.first (length us + j) (omega arith) (omega arith) (same_at j (omega arith) ∙ t)) in
       omega arith
 
-  part_none : Sought vs (length us) count p Missing → first_sight ws p ≡ length ws
+  part_none : Sought vs (length us) count p None → first_sight ws p ≡ length ws
   part_none f = sight_none p p ws (λ m l s. f (length us + m) (omega arith) (omega (arith, length-append us ws)) (same_at m l ∙ s))
 
 -- ---- meshes that grow
@@ -97,13 +98,9 @@ three_more n = omega arith
 pub few_places : {w : Welder} {vs : List Float} {ws : List ℕ} → Linked w vs ws → w.places < 2 ^ 32
 few_places {w} {vs} {ws} L = omega (arith, places_limit vs, L.places)
 
-pub no_bucket : (places : ℕ) (p : Vec3) → places < 2 ^ 32 → BucketOrNone places p 4294967296
-no_bucket places p h l = omega arith
-
--- the places stay as many as the slice of vertices has, and so a bucket stays that of its point
-pub bucket_stays : {w r : Welder} {vs vs' : List Float} {ws ws' : List ℕ} (p : Vec3) (b : ℕ) → Linked w vs ws → Linked r vs' ws' → length vs' ≡ length vs → b ≡ bucket_of w.places p
-    → BucketOrNone r.places p b
-bucket_stays {w} {r} {vs} {vs'} p b L M e h l = h ∙ ap (λ (n : ℕ). bucket_of n p) (L.places ∙ places_long vs vs' (sym e) ∙ sym M.places)
+-- the places stay as many as the slice of vertices has
+pub places_stay : {w r : Welder} {vs vs' : List Float} {ws ws' : List ℕ} → Linked w vs ws → Linked r vs' ws' → length vs' ≡ length vs → r.places ≡ w.places
+places_stay {vs} {vs'} L M e = M.places ∙ places_long vs' vs e ∙ sym L.places
 
 -- ---- the cases of `weld_point`
 module _ (w : Welder) (vs : List Float) (ws : List ℕ) (L : Linked w vs ws) (p : Vec3) where
@@ -116,17 +113,17 @@ module _ (w : Welder) (vs : List Float) (ws : List ℕ) (L : Linked w vs ws) (p 
       part_first D.vertices S.vertices vs w.count (R.holds e).vertices (R.holds e).count p m
       (subst (λ (n : ℕ). FirstAt vs n w.count p m) (R.base e) F)
 
-  unseen : (D S : Mesh) (ts : List ℕ) → w.room ≡ true → Sought vs w.base w.count p Missing → Rep D S (here ts) → first_sight S.vertices p ≡ length S.vertices
+  unseen : (D S : Mesh) (ts : List ℕ) → w.room ≡ true → Sought vs w.base w.count p None → Rep D S (here ts) → first_sight S.vertices p ≡ length S.vertices
   unfolding append
   unseen D S ts e F R =
       part_none D.vertices S.vertices vs w.count (R.holds e).vertices (R.holds e).count p
-      (subst (λ (n : ℕ). Sought vs n w.count p Missing) (R.base e) F)
+      (subst (λ (n : ℕ). Sought vs n w.count p None) (R.base e) F)
 
   long : (D S : Mesh) (ts : List ℕ) → w.room ≡ true → Rep D S (here ts) → length D.vertices + length S.vertices ≡ w.count
   unfolding append
   long D S ts e R = sym (length-append D.vertices S.vertices) ∙ (R.holds e).count
 
-  pub point_shut : w.room ≡ false → PointRuns p w vs ws (record { number = 0; st = w }) vs ws
+  pub point_shut : w.room ≡ false → PointRuns p w vs ws 0 w vs ws
   point_shut f =
       record {
         linked = L;
@@ -140,7 +137,7 @@ module _ (w : Welder) (vs : List Float) (ws : List ℕ) (L : Linked w vs ws) (p 
         stays = λ q. absurd (not_both w.room q f);
       }
 
-  pub point_at : (m : ℕ) → w.room ≡ true → FirstAt vs w.base w.count p m → PointRuns p w vs ws (record { number = m; st = w }) vs ws
+  pub point_at : (m : ℕ) → w.room ≡ true → FirstAt vs w.base w.count p m → PointRuns p w vs ws m w vs ws
   point_at m e F =
       record {
         linked = L;
@@ -155,7 +152,7 @@ module _ (w : Welder) (vs : List Float) (ws : List ℕ) (L : Linked w vs ws) (p 
         stays = λ q x n G. G;
       }
 
-  pub point_full : w.room ≡ true → Sought vs w.base w.count p Missing → w.places ≤ w.count → PointRuns p w vs ws (record { number = 0; st = shut w }) vs ws
+  pub point_full : w.room ≡ true → Sought vs w.base w.count p None → w.places ≤ w.count → PointRuns p w vs ws 0 (shut w) vs ws
   point_full e F k =
       record {
         linked = record { distinct = L.distinct; chained = L.chained; places = L.places; rows = L.rows };
@@ -178,8 +175,8 @@ module _ (w : Welder) (vs : List Float) (ws : List ℕ) (L : Linked w vs ws) (p 
   vs₁ = put_vertex vs w.count p
 
   -- the state after p became a vertex
-  module _ (f : Foreseen) (W : f.fresh ≡ true → InRow w.base w.count vs p (row_seen f)) where
-    held_more : (M : Mesh) (ts ws' : List ℕ) → w.count < w.places → Holds M (here ts) → Holds (more_vertex M p) (held (more w f) vs₁ ts ws')
+  module _ (f : Row) (o : Bool) (W : o ≡ true → InRow w.base w.count vs p f) where
+    held_more : (M : Mesh) (ts ws' : List ℕ) → w.count < w.places → Holds M (here ts) → Holds (more_vertex M p) (held (more_at w f o) vs₁ ts ws')
     held_more M ts ws' k H =
         record {
           vertices =
@@ -191,20 +188,20 @@ module _ (w : Welder) (vs : List Float) (ws : List ℕ) (L : Linked w vs ws) (p 
           faces = H.faces;
         }
 
-    rows_more : w.count < w.places → f.fresh ≡ true → (m : ℕ) → w.base ≤ m → m < w.count + 1 → among (row_seen f) (vertex_at vs₁ (w.count + 1 - 1)) (vertex_at vs₁ m) ≡ true
+    rows_more : w.count < w.places → o ≡ true → (m : ℕ) → w.base ≤ m → m < w.count + 1 → among f (vertex_at vs₁ (w.count + 1 - 1)) (vertex_at vs₁ m) ≡ true
     rows_more k q m a l =
-        ap (λ (v : Vec3). among (row_seen f) v (vertex_at vs₁ m)) (ap (vertex_at vs₁) (add-sub_cancel w.count 1) ∙ last)
+        ap (λ (v : Vec3). among f v (vertex_at vs₁ m)) (ap (vertex_at vs₁) (add-sub_cancel w.count 1) ∙ last)
         ∙ ⊎_elim
-        (λ e. ap (λ (n : ℕ). among (row_seen f) p (vertex_at vs₁ n)) e ∙ ap (among (row_seen f) p) last ∙ (W q).has)
-        (λ j. ap (among (row_seen f) p) (put_before vs w.count p m j) ∙ (W q).keeps m a j)
+        (λ e. ap (λ (n : ℕ). among f p (vertex_at vs₁ n)) e ∙ ap (among f p) last ∙ (W q).has)
+        (λ j. ap (among f p) (put_before vs w.count p m j) ∙ (W q).keeps m a j)
         (eq-or-lt_of_le {n = m} {m = w.count} (omega arith))
       where
         last : vertex_at vs₁ w.count ≡ p
         last = put_at vs w.count p (omega (arith, L.distinct.room))
 
     -- p became a vertex, and the chains are ws' now
-    grown_runs : (ws' : List ℕ) → Clean p → Chained vs₁ ws' w.places w.base (indexed (more w f)) → w.room ≡ true → Sought vs w.base w.count p Missing → w.count < w.places
-        → PointRuns p w vs ws (record { number = w.count; st = more w f }) vs₁ ws'
+    grown_runs : (ws' : List ℕ) → Clean p → Chained vs₁ ws' w.places w.base (indexed (more_at w f o)) → w.room ≡ true → Sought vs w.base w.count p None → w.count < w.places
+        → PointRuns p w vs ws w.count (more_at w f o) vs₁ ws'
     grown_runs ws' cp C e F k =
         record {
           linked = record {
@@ -219,7 +216,7 @@ module _ (w : Welder) (vs : List Float) (ws : List ℕ) (L : Linked w vs ws) (p 
           small = omega (arith, L.places, places_limit vs);
           rep = λ D S ts R. record {
             base = R.base;
-            holds = λ q. subst (λ (M : Mesh). Holds M (held (more w f) vs₁ ts ws')) (sym (grown D S p (unseen D S ts e F R)))
+            holds = λ q. subst (λ (M : Mesh). Holds M (held (more_at w f o) vs₁ ts ws')) (sym (grown D S p (unseen D S ts e F R)))
                 (held_more (append D S) ts ws' k (R.holds q));
             over = λ q. absurd (not_both w.room e q);
           };
@@ -229,31 +226,28 @@ module _ (w : Welder) (vs : List Float) (ws : List ℕ) (L : Linked w vs ws) (p 
         }
 
   -- the rows showed that p is new: the chains stay
-  pub point_fresh : (f : Foreseen) → Foresees w vs p f → f.fresh ≡ true → Clean p → w.room ≡ true → w.count < w.places
-      → PointRuns p w vs ws (record { number = w.count; st = more w f }) vs₁ ws
-  point_fresh f W e cp r k =
-      grown_runs f W.row ws cp
-      (subst (Chained vs₁ ws w.places w.base) (sym (ap (λ (b : Bool). cond b w.base (w.count + 1)) e))
-      (chained_still vs w.places w.base w.count L.distinct p k ws w.base L.distinct.based (subst (Chained vs ws w.places w.base) (W.loose e) L.chained)))
-      r (W.missing e) k
+  pub point_fresh : (f : Row) → Fresh w vs p f → Clean p → w.room ≡ true → w.count < w.places → PointRuns p w vs ws w.count (more_at w f true) vs₁ ws
+  point_fresh f W cp r k =
+      grown_runs f true (λ _. W.row) ws cp
+      (chained_still vs w.places w.base w.count L.distinct p k ws w.base L.distinct.based (subst (Chained vs ws w.places w.base) W.loose L.chained))
+      r W.missing k
 
   -- a search showed it: p goes into its chain
-  pub point_new : (f : Foreseen) → f.fresh ≡ false → w.ordered ≡ false → Clean p → (b : ℕ) → b ≡ bucket_of w.places p → b < w.places → w.room ≡ true
-      → Sought vs w.base w.count p Missing → w.count < w.places
-      → PointRuns p w vs ws (record { number = w.count; st = more w f }) vs₁ (linked_in ws w.places w.count b)
-  point_new f e o cp b eb bl r F k =
-      grown_runs f (λ q. absurd (not_both f.fresh q e)) (linked_in ws w.places w.count b) cp
-      (subst (Chained vs₁ (linked_in ws w.places w.count b) w.places w.base) (sym (ap (λ (t : Bool). cond t w.base (w.count + 1)) e))
+  pub point_new : w.ordered ≡ false → Clean p → (b : ℕ) → b ≡ bucket_of w.places p → b < w.places → w.room ≡ true
+      → Sought vs w.base w.count p None → w.count < w.places
+      → PointRuns p w vs ws w.count (more_at w no_row false) vs₁ (linked_in ws w.places w.count b)
+  point_new o cp b eb bl r F k =
+      grown_runs no_row false (λ q. absurd (not_both false q refl)) (linked_in ws w.places w.count b) cp
       (chained_more vs ws w.places w.base w.count L.distinct
-      (subst (Chained vs ws w.places w.base) (ap (λ (t : Bool). cond t w.base w.count) o) L.chained) p k b eb bl))
+      (subst (Chained vs ws w.places w.base) (ap (λ (t : Bool). cond t w.base w.count) o) L.chained) p k b eb bl)
       r F k
 
 -- a point that was seen, or any after there was no room
 pub point_known : (w : Welder) (vs : List Float) (ws : List ℕ) (p : Vec3) (m : ℕ) → Linked w vs ws → m < 2 ^ 32 → (w.room ≡ true → FirstAt vs w.base w.count p m)
-    → PointRuns p w vs ws (record { number = m; st = w }) vs ws
+    → PointRuns p w vs ws m w vs ws
 point_known w vs ws p m L l F = go w.room refl
   where
-    go : (b : Bool) → w.room ≡ b → PointRuns p w vs ws (record { number = m; st = w }) vs ws
+    go : (b : Bool) → w.room ≡ b → PointRuns p w vs ws m w vs ws
     go true e = point_at w vs ws L p m e (F e)
     go false e =
         let P = point_shut w vs ws L p e in
@@ -279,8 +273,8 @@ rep_settled w vs ts ws ws' D S R =
     }
 
 -- what is done to the settled state is done to the state before
-pub point_settled : (w : Welder) (vs : List Float) (ws ws' : List ℕ) (p : Vec3) (r : Welded) (vs₂ : List Float) (ws₂ : List ℕ) → PointRuns p (settled w) vs ws' r vs₂ ws₂ → PointRuns p w vs ws r vs₂ ws₂
-point_settled w vs ws ws' p r vs₂ ws₂ P =
+pub point_settled : (w : Welder) (vs : List Float) (ws ws' : List ℕ) (p : Vec3) (n : ℕ) (r : Welder) (vs₂ : List Float) (ws₂ : List ℕ) → PointRuns p (settled w) vs ws' n r vs₂ ws₂ → PointRuns p w vs ws n r vs₂ ws₂
+point_settled w vs ws ws' p n r vs₂ ws₂ P =
     record {
       linked = P.linked;
       faces = P.faces;
@@ -295,3 +289,14 @@ point_settled w vs ws ws' p r vs₂ ws₂ P =
 
 pub linked_settled : (w : Welder) (vs : List Float) (ws ws' : List ℕ) → Linked w vs ws → Chained vs ws' w.places w.base w.count → Linked (settled w) vs ws'
 linked_settled w vs ws ws' L C = record { distinct = L.distinct; chained = C; places = L.places; rows = λ q. absurd (not_both false q refl) }
+
+-- ---- the slices of a mesh while it is welded
+pub slices_kept : (w : Welding) → PointSlices w w
+slices_kept w = record { same = same_refl w; triangles = refl; vlong = refl; wlong = refl }
+
+pub slices_then : {w m r : Welding} → PointSlices w m → PointSlices m r → PointSlices w r
+slices_then a b = record { same = same_then a.same b.same; triangles = b.triangles ∙ a.triangles; vlong = b.vlong ∙ a.vlong; wlong = b.wlong ∙ a.wlong }
+
+-- nothing was done
+pub point_stays : (w : Welding) (p : Vec3) (n : ℕ) → PointRuns p w.st w.vertices.now w.work.now n w.st w.vertices.now w.work.now → WeldsPoint p w w n
+point_stays w p n P = record { slices = slices_kept w; runs = P }

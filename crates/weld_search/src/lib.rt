@@ -1,75 +1,60 @@
 // The number of a point that came out of `+ 0.0`: that of the first equal vertex of its part, or the next one.
 #![tactic(auto)]
 
-ghost use Rattle.std.specs.Prelude.{◌<◌};
-ghost use Rattle.weld_vertex.specs.Points.{Clean};
+ghost use Rattle.std.specs.Prelude.{◌≡◌};
+ghost use Rattle.weld_vertex.specs.Points.{Clean, is_at};
 ghost use Rattle.weld.specs.Rep.{Linked};
-ghost use Rattle.weld_search.specs.Search.{BucketOrNone, PointRuns};
+ghost use Rattle.weld_search.specs.Search.{BucketOrNone, WeldsPoint};
 
 mod search;
 
 use math::Vec3;
-use weld::Welder;
-
-// The number of a point, and the state after it.
-#[derive(Clone, Copy)]
-pub struct Welded {
-    pub number: usize,
-    pub st: Welder,
-}
-
-// No bucket: more than there are places.
-const NO_BUCKET: usize = 4294967296;
+use weld::Welding;
 
 // Gives a point its number, a guess at which is tried before the look-up.
-pub fn weld_point(
-    vertices: &mut [f64],
-    work: &mut [u32],
-    w: Welder,
-    p: Vec3,
-    guess: usize,
-) -> Welded
-    requires { Linked w vertices.old work.old × Clean p }
-    ensures { PointRuns p w vertices.old work.old result vertices.new work.new }
+pub fn weld_point(w: &mut Welding<'_>, p: Vec3, guess: usize) -> usize
+    requires { Linked w.old.st w.old.vertices.now w.old.work.now × Clean p }
+    ensures { WeldsPoint p w.old w.new result }
 {
-    let room = w.room;
-    if !room {
-        return Welded { number: 0, st: w };
+    if !w.st.room {
+        return 0;
     }
-    if weld_vertex::is_at(vertices, w.base, w.count, guess, p) {
-        return Welded {
-            number: guess,
-            st: w,
-        };
+    if is_right(w, guess, p) {
+        return guess;
     }
-    look_up(vertices, work, w, p, NO_BUCKET)
+    look_up(w, p, None)
+}
+
+// Whether a guess is right: it is a vertex of this part, and equals p.
+fn is_right(w: &Welding<'_>, guess: usize, p: Vec3) -> bool
+    requires { Linked w.now.st w.now.vertices.now w.now.work.now }
+    ensures { result ≡ is_at w.now.vertices.now w.now.st.base w.now.st.count p guess }
+{
+    weld_vertex::is_at(w.vertices, w.st.base, w.st.count, guess, p)
 }
 
 // Gives a point its number: that of the first equal vertex of this part, or the next one, with which it is written. A point that the
-// rows show to be new goes into no chain yet. Where `bucket` is below the places, it is the bucket of p.
-pub fn look_up(vertices: &mut [f64], work: &mut [u32], w: Welder, p: Vec3, bucket: usize) -> Welded
-    requires { Linked w vertices.old work.old × Clean p × BucketOrNone w.places p bucket }
-    ensures { PointRuns p w vertices.old work.old result vertices.new work.new }
+// rows show to be new goes into no chain yet. The caller may have worked out the bucket of p.
+// 0 where the mesh does not fit, and no Option: an answer of more than one word made look-ups slower (docs/SPEED.md).
+pub fn look_up(w: &mut Welding<'_>, p: Vec3, bucket: Option<usize>) -> usize
+    requires { Linked w.old.st w.old.vertices.now w.old.work.now × Clean p × BucketOrNone w.old.st.places p bucket }
+    ensures { WeldsPoint p w.old w.new result }
 {
-    let room = w.room;
-    if !room {
-        return Welded { number: 0, st: w };
+    if !w.st.room {
+        return 0;
     }
-    let f = weld::foresee(vertices, w, p);
-    let fresh = f.fresh;
-    if !fresh {
-        return search::search(vertices, work, w, p, bucket);
-    }
-    let count = w.count;
-    if count < w.places {
-        mesh_triples::put_vertex(vertices, count, p);
-        return Welded {
-            number: count,
-            st: weld::grown(w, f),
-        };
-    }
-    Welded {
-        number: 0,
-        st: weld::full(w),
+    match weld::foresee(w, p) {
+        None => search::search(w, p, bucket),
+        Some(row) => {
+            let count = w.st.count;
+            if count < w.st.places {
+                mesh_triples::put_vertex(w.vertices, count, p);
+                w.st.add_in_row(row);
+                count
+            } else {
+                w.st.shut();
+                0
+            }
+        }
     }
 }

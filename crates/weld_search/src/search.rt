@@ -2,67 +2,76 @@
 ghost use Rattle.std.specs.Prelude.{◌≡◌, true, false, ◌<◌, ◌^◌};
 ghost use Rattle.weld_vertex.specs.Points.{Clean};
 ghost use Rattle.weld_bucket.specs.Bucket.{bucket_of};
+ghost use Rattle.weld_hash.specs.Hash.{Distinct, Chained, Indexed};
 ghost use Rattle.weld.specs.Rep.{Linked};
-ghost use Rattle.weld.specs.States.{settled};
-ghost use Rattle.weld_search.specs.Search.{BucketOrNone, PointRuns};
+ghost use Rattle.weld_search.specs.Search.{BucketOrNone, Settles, WeldsPoint};
 
-use crate::Welded;
 use math::Vec3;
-use weld::Welder;
+use weld::Welding;
 
-// Gives a point its number by a search. Where `bucket` is below the places, it is the bucket of p.
-pub fn search(vertices: &mut [f64], work: &mut [u32], w: Welder, p: Vec3, bucket: usize) -> Welded
-    requires { Linked w vertices.old work.old × Clean p × (w.room ≡ true) × (w.base < w.count) × BucketOrNone w.places p bucket }
-    ensures { PointRuns p w vertices.old work.old result vertices.new work.new }
+// Gives a point its number by a search. The caller may have worked out the bucket of p.
+pub fn search(w: &mut Welding<'_>, p: Vec3, bucket: Option<usize>) -> usize
+    requires linked { Linked w.old.st w.old.vertices.now w.old.work.now × Clean p × BucketOrNone w.old.st.places p bucket }
+    requires some { (w.old.st.room ≡ true) × (w.old.st.base < w.old.st.count) }
+    ensures { WeldsPoint p w.old w.new result }
 {
-    let s = settle(vertices, work, w);
-    find(vertices, work, s, p, bucket)
+    settle(w);
+    find(w, p, bucket)
 }
 
 // Puts all vertices of this part into the chains.
-fn settle(vertices: &[f64], work: &mut [u32], w: Welder) -> Welder
-    requires { Linked w vertices.now work.old }
-    ensures { (result ≡ settled w) × Linked (settled w) vertices.now work.new }
+fn settle(w: &mut Welding<'_>)
+    requires { Linked w.old.st w.old.vertices.now w.old.work.now }
+    ensures { Settles w.old w.new }
 {
-    let ordered = w.ordered;
-    if ordered {
-        weld_hash::index(vertices, work, w.places, w.base, w.count);
-        return weld::settled(w);
+    if w.st.ordered {
+        let places = w.st.places;
+        let base = w.st.base;
+        let count = w.st.count;
+        index(w.vertices, w.work, places, base, count);
+        w.st.settle();
     }
-    weld::settled(w)
+}
+
+// `weld_hash::index`, which only reads the vertices. Here they are lent as `&mut`, so that vertices and chains can be lent out of one struct at once.
+fn index(vertices: &mut [f64], work: &mut [u32], places: usize, base: usize, count: usize)
+    requires { Distinct vertices.old places base count × (places < 2 ^ 32) × Chained vertices.old work.old places base base }
+    ensures { (vertices.new ≡ vertices.old) × Indexed vertices.old work.old places base count work.new }
+{
+    weld_hash::index(vertices, work, places, base, count);
 }
 
 // The bucket of p, which is worked out unless it is known.
-fn bucket_at(p: Vec3, places: usize, bucket: usize) -> usize
+fn bucket_at(p: Vec3, places: usize, bucket: Option<usize>) -> usize
     requires { (0 < places) × (places < 2 ^ 32) × Clean p × BucketOrNone places p bucket }
     ensures { (result ≡ bucket_of places p) × (result < places) }
 {
-    if bucket < places {
-        return bucket;
+    match bucket {
+        Some(b) => b,
+        None => weld_bucket::bucket_of(p, places),
     }
-    weld_bucket::bucket_of(p, places)
 }
 
 // The same as `search`, where all vertices of this part are in the chains.
-fn find(vertices: &mut [f64], work: &mut [u32], w: Welder, p: Vec3, bucket: usize) -> Welded
-    requires linked { Linked w vertices.old work.old × Clean p × (w.room ≡ true) × (w.base < w.count) × BucketOrNone w.places p bucket }
-    requires ordered_value { w.ordered ≡ false }
-    ensures { PointRuns p w vertices.old work.old result vertices.new work.new }
+fn find(w: &mut Welding<'_>, p: Vec3, bucket: Option<usize>) -> usize
+    requires linked { Linked w.old.st w.old.vertices.now w.old.work.now × Clean p × BucketOrNone w.old.st.places p bucket }
+    requires some { (w.old.st.room ≡ true) × (w.old.st.base < w.old.st.count) × (w.old.st.ordered ≡ false) }
+    ensures { WeldsPoint p w.old w.new result }
 {
-    let count = w.count;
-    let at = bucket_at(p, w.places, bucket);
-    let number = weld_hash::number_of(vertices, work, w.places, w.base, count, at, p);
-    if number < count {
-        return Welded { number, st: w };
-    }
-    if number == count {
-        return Welded {
-            number,
-            st: weld::grown(w, weld::unknown()),
-        };
-    }
-    Welded {
-        number: 0,
-        st: weld::full(w),
+    let places = w.st.places;
+    let base = w.st.base;
+    let count = w.st.count;
+    let at = bucket_at(p, places, bucket);
+    match weld_hash::number_of(w.vertices, w.work, places, base, count, at, p) {
+        Some(number) => {
+            if number == count {
+                w.st.add_searched();
+            }
+            number
+        }
+        None => {
+            w.st.shut();
+            0
+        }
     }
 }

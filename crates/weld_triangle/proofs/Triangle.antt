@@ -15,12 +15,13 @@ use Rattle.mesh_balance_spec.specs.Buffer.{flat_append}
 use Rattle.math.specs.Vec.{v_finite}
 use Rattle.mesh_spec.specs.Mesh.{Mesh, plus_zero_v, distinct, append, weld_triangle, weld_soup, every_finite}
 use Rattle.weld.specs.declared.Welder.{Welder}
-use Rattle.weld_search.specs.declared.Welded.{Welded}
+use Rattle.weld.specs.declared.Welding.{Welding}
+use Rattle.weld.specs.Welding.{same_refl, same_then, held_by}
 use Rattle.slice.specs.Every.{places_of}
 use Rattle.weld.specs.Rep.{Held, held, row_of, Linked, Ready, Holds, Over, Rep, Runs}
 use Rattle.weld.specs.States.{unfinite, shut, more_faces}
-use Rattle.weld_search.specs.Search.{PointRuns}
-use Rattle.weld_triangle.specs.Steps.{with_triangle, weld_points, TriangleRuns, PointsRun}
+use Rattle.weld_search.specs.Search.{WeldsPoint}
+use Rattle.weld_triangle.specs.Steps.{with_triangle, weld_points, TriangleRuns, PointsRun, WeldsNumbers, WeldsPoints}
 use Rattle.weld.proofs.Places.{take_three, places_fit, places_long}
 use Rattle.slice_law.specs.Bools.{not_both}
 use Rattle.weld_search.proofs.Point.{rep_shut, three_more}
@@ -174,26 +175,44 @@ pub linked_moved : {vs : List Float} {ws : List ℕ} (w r : Welder) → r.base �
     → Linked w vs ws → Linked r vs ws
 linked_moved w r b c p o k L = record { distinct = rw (b, c, p) L.distinct; chained = rw (b, c, p, o) L.chained; places = p ∙ L.places; rows = rw (b, c, o, k) L.rows }
 
-pub points_run : (a b c : Vec3) (st : Welder) (vs : List Float) (ts ws : List ℕ) (u : Welded) (vs₁ : List Float) (ws₁ : List ℕ) (v : Welded) (vs₂ : List Float)
-    (ws₂ : List ℕ) (w : Welded) (vs₃ : List Float) (ws₃ : List ℕ) (r : Welder) (ts' : List ℕ)
-    → PointRuns a st vs ws u vs₁ ws₁ → PointRuns b u.st vs₁ ws₁ v vs₂ ws₂ → PointRuns c v.st vs₂ ws₂ w vs₃ ws₃ → TriangleRuns u.number v.number w.number w.st ts r ts'
-    → length vs₃ ≡ length vs → length ts' ≡ length ts → length ws₃ ≡ length ws
-    → PointsRun a b c (held st vs ts ws) (held r vs₃ ts' ws₃)
+pub linked_after : {a b c : ℕ} {w r : Welding} → WeldsNumbers a b c w r → Linked w.st w.vertices.now w.work.now → Linked r.st r.vertices.now r.work.now
+linked_after {w} {r} T L = rw (T.vertices, T.work) (linked_moved w.st r.st T.runs.base T.runs.count T.runs.places T.runs.ordered T.runs.row L)
+
+pub faces_after : {p : Vec3} {n : ℕ} {w r : Welding} → WeldsPoint p w r n → w.st.faces ≤ places_of w.triangles.now → r.st.faces ≤ places_of r.triangles.now
+faces_after P l = rw (P.slices.triangles, P.runs.faces) l
+
+pub points_run : (a b c : Vec3) {w u v t r : Welding} {m n k : ℕ} → WeldsPoint a w u m → WeldsPoint b u v n → WeldsPoint c v t k → WeldsNumbers m n k t r
+    → PointsRun a b c (held_by w) (held_by r)
 unfolding weld_points
-points_run a b c st vs ts ws u vs₁ ws₁ v vs₂ ws₂ w vs₃ ws₃ r ts' P₁ P₂ P₃ R lv lt lw =
+points_run a b c {w} {u} {v} {t} {r} {m} {n} {k} P₁ P₂ P₃ T =
+    let e : t.triangles.now ≡ w.triangles.now = P₃.slices.triangles ∙ P₂.slices.triangles ∙ P₁.slices.triangles in
+    let R : TriangleRuns m n k t.st w.triangles.now r.st r.triangles.now =
+    subst (λ (l : List ℕ). TriangleRuns m n k t.st l r.st r.triangles.now) e T.runs in
+    let ts : List ℕ = w.triangles.now in
     record {
-      ready = record { linked = linked_moved w.st r R.base R.count R.places R.ordered R.row P₃.linked; faces = R.faces };
-      vlong = lv;
-      tlong = lt;
-      wlong = lw;
-      finite = R.finite ∙ P₃.finite ∙ P₂.finite ∙ P₁.finite;
+      ready = record { linked = linked_after T P₃.runs.linked; faces = R.faces };
+      vlong = ap length T.vertices ∙ P₃.slices.vlong ∙ P₂.slices.vlong ∙ P₁.slices.vlong;
+      tlong = T.tlong ∙ ap length e;
+      wlong = ap length T.work ∙ P₃.slices.wlong ∙ P₂.slices.wlong ∙ P₁.slices.wlong;
+      finite = R.finite ∙ P₃.runs.finite ∙ P₂.runs.finite ∙ P₁.runs.finite;
       rep = λ D S Q.
-          let Q₁ = P₁.rep D S ts Q in
-          let Q₂ = P₂.rep D _ ts Q₁ in
-          R.rep D _ vs₃ ws₃ _
-          (λ q. (P₁.number D S ts Q (P₂.sticky (P₃.sticky q)), P₂.number D _ ts Q₁ (P₃.sticky q), P₃.number D _ ts Q₂ q))
-          (P₃.rep D _ ts Q₂);
+          let Q₁ = P₁.runs.rep D S ts Q in
+          let Q₂ = P₂.runs.rep D _ ts Q₁ in
+          rw (T.vertices, T.work)
+          (R.rep D _ t.vertices.now t.work.now _
+          (λ q. (P₁.runs.number D S ts Q (P₂.runs.sticky (P₃.runs.sticky q)), P₂.runs.number D _ ts Q₁ (P₃.runs.sticky q), P₃.runs.number D _ ts Q₂ q))
+          (P₃.runs.rep D _ ts Q₂));
     }
+
+-- the same slices after three points and a triangle
+pub points_welded : (a b c : Vec3) {w u v t r : Welding} {m n k : ℕ} → WeldsPoint a w u m → WeldsPoint b u v n → WeldsPoint c v t k → WeldsNumbers m n k t r
+    → WeldsPoints a b c w r
+points_welded a b c P₁ P₂ P₃ T =
+    record { same = same_then P₁.slices.same (same_then P₂.slices.same (same_then P₃.slices.same T.same)); runs = points_run a b c P₁ P₂ P₃ T }
+
+-- nothing was done
+pub numbers_stay : (a b c : ℕ) (w : Welding) → TriangleRuns a b c w.st w.triangles.now w.st w.triangles.now → WeldsNumbers a b c w w
+numbers_stay a b c w T = record { same = same_refl w; vertices = refl; work = refl; tlong = refl; runs = T }
 
 -- ---- the cases of `weld_triangle::weld_triangle`
 unfinished : (x y z : Bool) → (x ≡ false) ⊎ ((y ≡ false) ⊎ (z ≡ false)) → (x && y && z && true) ≡ false

@@ -6,6 +6,8 @@ use Rattle.mesh_spec.specs.Mesh.{Mesh, first_sight, distinct}
 use Rattle.weld.specs.declared.Welder.{Welder}
 use Rattle.slice.specs.Every.{places_of}
 use Rattle.weld.specs.Rep.{Held, held, row_of, Ready, Rep}
+use Rattle.weld.specs.declared.Welding.{Welding}
+use Rattle.weld.specs.Welding.{SameSlices, held_by}
 use Rattle.weld_search.specs.Search.{with_vertex}
 
 -- the mesh after a triangle was offered: it stays where its numbers differ
@@ -42,3 +44,16 @@ pub record PointsRun (a b c : Vec3) (h k : Held) : Type 0 where
   pub wlong : length k.work ≡ length h.work
   pub finite : k.st.finite ≡ h.st.finite
   pub rep : (D S : Mesh) → Rep D S h → Rep D (weld_points S a b c) k
+
+-- a triangle of the numbers a, b and c was offered: the vertices and the chains stay as they were
+pub record WeldsNumbers (a b c : ℕ) (w r : Welding) : Type 0 where
+  pub same : SameSlices w r
+  pub vertices : r.vertices.now ≡ w.vertices.now
+  pub work : r.work.now ≡ w.work.now
+  pub tlong : length r.triangles.now ≡ length w.triangles.now
+  pub runs : TriangleRuns a b c w.st w.triangles.now r.st r.triangles.now
+
+-- the three points of a triangle were welded
+pub record WeldsPoints (a b c : Vec3) (w r : Welding) : Type 0 where
+  pub same : SameSlices w r
+  pub runs : PointsRun a b c (held_by w) (held_by r)

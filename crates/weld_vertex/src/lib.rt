@@ -8,15 +8,11 @@ ghost use Rattle.weld_vertex.specs.Points.{is_at};
 use math::Vec3;
 
 // Whether two points are equal as floats.
+// The derived ==, under a name for its clause, which proofs of the crates above cite.
 pub fn equal(a: Vec3, b: Vec3) -> bool
     ensures { result ≡ same_point a b }
 {
-    if a.x == b.x {
-        if a.y == b.y {
-            return a.z == b.z;
-        }
-    }
-    false
+    a == b
 }
 
 // Whether vertex m is one from `base` below `count` and equals p.

@@ -1,9 +1,5 @@
 -- `fixture_job::draw_job` meets its contract. Assumes nothing.
-use borrow.Author.Rules.{rules}
-use mathlib.Core.Path.{◌≡◌, sym, ◌∙◌}
 use native.Mathlib.Omega.{arith}
-use lib.ListN.{length, take, drop, length-take, length-drop}
-use lib.Seq.{length-take-le}
 use Rattle.fixture_job.proofs.Read.{list_count, list_room, list_part, list_read, lent_same, same_job}
 use Rattle.fixture_job.proofs.draw_job.Goals as goal
 
@@ -18,8 +14,8 @@ get_floats-requires c =
     list_room s.args.file.now s.args.list.now s.args.j.list_at s.args.j.list_floats (omega (arith, s.requires.0.few, s.requires.1.list))
     s.requires.0.inside
 
-pub slice_bounds-tessellate-end-2 : goal.slice_bounds-tessellate-end-2
-slice_bounds-tessellate-end-2 c =
+pub slice_bounds-d-end-2 : goal.slice_bounds-d-end-2
+slice_bounds-d-end-2 c =
     let s = c in
     list_part s.args.file.now s.args.list.now s.args.j.list_at s.args.j.list_floats
     (omega (arith, s.requires.0.few, s.requires.1.list)) _ c.get_floats.ensures

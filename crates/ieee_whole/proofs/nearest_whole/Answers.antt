@@ -12,7 +12,7 @@ pub half_up-n-requires : goal.half_up-n-requires
 unfolding of_bits neg
 half_up-n-requires c =
     let k = near_neg_asks c.args.p c.if-p.true c.if-p-2.true in
-    record { fact_1 = k.0; fact_2 = k.1 }
+    record { not_negative = k.0; below_all_whole = k.1 }
 
 pub truncating_f64_to_u64-requires : goal.truncating_f64_to_u64-requires
 unfolding of_bits neg
@@ -24,7 +24,7 @@ pub half_up-n-requires-then-p-4 : goal.half_up-n-requires-then-p-4
 unfolding of_bits
 half_up-n-requires-then-p-4 c =
     let k = near_pos_asks c.args.p c.if-p.false c.if-p-4.true in
-    record { fact_1 = k.0; fact_2 = k.1 }
+    record { not_negative = k.0; below_all_whole = k.1 }
 
 pub truncating_f64_to_u64-requires-then-p-5 : goal.truncating_f64_to_u64-requires-then-p-5
 unfolding of_bits
@@ -38,7 +38,7 @@ returns-then-p-2 c =
     let called = c in
     let tested = called in
     (λ i. whole (c.minus_as_float.ensures i) (c.minus_mod_4.ensures i))
-    ∙ near_neg tested.args.p called.half_up-n.result tested.if-p.true tested.if-p-2.true called.half_up-n.ensures.fact_1
+    ∙ near_neg tested.args.p called.half_up-n.result tested.if-p.true tested.if-p-2.true called.half_up-n.ensures.nearest
 
 pub returns-then-p-3 : goal.returns-then-p-3
 unfolding of_bits neg
@@ -60,7 +60,7 @@ returns-then-p-4 c =
     let called = c in
     let tested = called in
     ap (λ (x : Float). whole x (called.half_up-n-then-p-4.result % 4)) c.as_float.ensures
-    ∙ near_pos tested.args.p called.half_up-n-then-p-4.result tested.if-p.false tested.if-p-4.true called.half_up-n-then-p-4.ensures.fact_1
+    ∙ near_pos tested.args.p called.half_up-n-then-p-4.result tested.if-p.false tested.if-p-4.true called.half_up-n-then-p-4.ensures.nearest
 
 pub returns-then-p-5 : goal.returns-then-p-5
 unfolding of_bits

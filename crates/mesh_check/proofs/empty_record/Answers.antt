@@ -1,5 +1,4 @@
 -- `mesh_check::empty_record` meets its contract: counts 0 and the empty box. Assumes nothing.
-use borrow.Author.Rules.{rules}
 use Rattle.mesh_check.proofs.empty_record.Goals as goal
 
 pub returns : goal.returns

@@ -14,14 +14,14 @@ returns-then-not-ops_angles_within c =
     let a = c.args in
     let ps = points (take (3 * a.n) a.vertices.now) in
     let w = sym c.ops_angles_within.ensures ∙ c.if-not-ops_angles_within.true in
-    move_angle a.ops a.op_count a.degrees ps w
+    move_angle a.ops.now.ops a.ops.now.count a.ops.now.degrees ps w
 
-pub returns-then-op_count-eq0 : goal.returns-then-op_count-eq0
-returns-then-op_count-eq0 c =
+pub returns-then-ops-eq0 : goal.returns-then-ops-eq0
+returns-then-ops-eq0 c =
     let a = c.args in
     let ps = points (take (3 * a.n) a.vertices.now) in
     let w = sym c.ops_angles_within.ensures ∙ c.if-not-ops_angles_within.false in
-    move_none a.ops a.op_count a.degrees ps w (eq-eqb a.op_count 0 c.if-op_count-eq0.true)
+    move_none a.ops.now.ops a.ops.now.count a.ops.now.degrees ps w (eq-eqb a.ops.now.count 0 c.if-ops-eq0.true)
 
 pub tested_stay_finite-requires : goal.tested_stay_finite-requires
 tested_stay_finite-requires c = c.requires
@@ -31,17 +31,17 @@ returns-then-not-tested_stay_finite c =
     let a = c.args in
     let ps = points (take (3 * a.n) a.vertices.now) in
     let w = sym c.ops_angles_within.ensures ∙ c.if-not-ops_angles_within.false in
-    let z = ne_eqb a.op_count 0 c.if-op_count-eq0.false in
+    let z = ne_eqb a.ops.now.count 0 c.if-ops-eq0.false in
     let fold = c.fold in
     let keep = c.tested_stay_finite in
-    move_points a.ops a.op_count a.degrees ps w z fold.result keep.result false fold.ensures keep.ensures c.if-not-tested_stay_finite.true
+    move_points a.ops.now.ops a.ops.now.count a.ops.now.degrees ps w z fold.result keep.result false fold.ensures keep.ensures c.if-not-tested_stay_finite.true
 
 pub returns : goal.returns
 returns c =
     let a = c.args in
     let ps = points (take (3 * a.n) a.vertices.now) in
     let w = sym c.ops_angles_within.ensures ∙ c.if-not-ops_angles_within.false in
-    let z = ne_eqb a.op_count 0 c.if-op_count-eq0.false in
+    let z = ne_eqb a.ops.now.count 0 c.if-ops-eq0.false in
     let fold = c.fold in
     let keep = c.tested_stay_finite in
-    move_points a.ops a.op_count a.degrees ps w z fold.result keep.result true fold.ensures keep.ensures c.if-not-tested_stay_finite.false
+    move_points a.ops.now.ops a.ops.now.count a.ops.now.degrees ps w z fold.result keep.result true fold.ensures keep.ensures c.if-not-tested_stay_finite.false

@@ -1,19 +1,14 @@
 -- `mesh_closed::closed` meets its contract: the triangles that are left pass the test where all do. Assumes nothing.
-use mathlib.Core.Path.{◌≡◌, refl, sym, ◌∙◌}
+use mathlib.Core.Path.{refl, sym, ◌∙◌}
 use mathlib.Core.Bool.{true, false}
-use Prim.Native.Nat.{◌-◌, ◌/◌}
 use native.Mathlib.Omega.{arith}
-use lib.ListN.{length, drop}
-use borrow.Author.Tests.{not-true, not-false}
 use Rattle.mesh_balance_spec.specs.Buffer.{tris}
-use Rattle.slice.specs.Every.{every}
 use Rattle.slice.specs.EveryLaws.{every_end}
 use Rattle.mesh_triples.specs.Triples.{triple_at}
 use Rattle.mesh_triples.proofs.NextTriples.{next_tris}
 use Rattle.mesh_closed.specs.Even.{closed_triangle}
 use Rattle.mesh_closed.proofs.Counts.{length_tris_whole}
 use Rattle.mesh_closed.proofs.ClosedTests.{every_fails, every_passes, closed_test}
-use borrow.Author.Rules.{rules}
 use Rattle.mesh_closed.proofs.closed.Goals as goal
 
 pub loop-i-init : goal.loop-i-init
@@ -32,12 +27,6 @@ returns-then-not-triangle_closed c =
     let e = c.if-not-triangle_closed.true in
     let r = c.triangle_closed.result in
     closed_test m (tris t) false (every_fails (closed_triangle m (tris t)) (tris t) l.i (triple_at t l.i 0) r n c.triangle_closed.ensures e l.invariant)
-
-pub overflow_add-i : goal.overflow_add-i
-overflow_add-i c = omega arith
-
-pub loop-i-smaller : goal.loop-i-smaller
-loop-i-smaller c = omega arith
 
 pub loop-i-preserved : goal.loop-i-preserved
 loop-i-preserved c =

@@ -1,9 +1,5 @@
 -- `mesh_closed::count_uses` meets its contract: n and the uses in what is left are the uses in the whole. Assumes nothing.
-use mathlib.Core.Path.{◌≡◌, refl}
-use Prim.Native.Nat.{◌+◌, ◌-◌, ◌/◌}
 use native.Mathlib.Omega.{arith}
-use lib.ListN.{length, drop}
-use Rattle.mesh_balance_spec.specs.Count.{edges, uses}
 use Rattle.mesh_balance_spec.specs.Buffer.{tris}
 use Rattle.mesh_triples.specs.Triples.{triple_at}
 use Rattle.mesh_triples.proofs.NextTriples.{next_tris}
@@ -29,12 +25,6 @@ overflow_add-n c =
     let l = c.loop-i in
     let t = a.t.now in
     omega (arith, uses_turn a.u a.v (tris t) l.i l.n c.triangle_uses-n.result (triple_at t l.i 0) (next_tris t l.i 0 (omega arith)) c.triangle_uses-n.ensures l.invariant, uses_most a.u a.v (tris t), length_tris_whole t)
-
-pub overflow_add-i : goal.overflow_add-i
-overflow_add-i c = omega arith
-
-pub loop-i-smaller : goal.loop-i-smaller
-loop-i-smaller c = omega arith
 
 pub returns : goal.returns
 returns c =

@@ -1,6 +1,5 @@
 -- `mesh_closed::even` meets its contract. Assumes nothing.
 use lib.Dec.{eqb}
-use borrow.Author.Rules.{rules}
 use Rattle.mesh_closed.proofs.even.Goals as goal
 
 pub returns : goal.returns

@@ -6,7 +6,6 @@ use Rattle.mesh_spec.specs.Mesh.{distinct}
 use Rattle.mesh_spec.specs.Closed.{below}
 use Rattle.mesh_triples.specs.Triples.{triple_at}
 use Rattle.mesh_closed.specs.Even.{closed_triangle}
-use borrow.Author.Rules.{rules}
 use native.Mathlib.Omega.{arith}
 use Rattle.mesh_closed.proofs.triangle_closed.Goals as goal
 

@@ -1,7 +1,6 @@
 -- `mesh_closed::triangle_even` meets its contract. Assumes nothing.
 use mathlib.Core.Bool.{◌&&◌}
 use Rattle.mesh_closed.specs.Even.{even_triangle}
-use borrow.Author.Rules.{rules}
 use Rattle.mesh_closed.proofs.triangle_even.Goals as goal
 
 pub returns : goal.returns

@@ -1,5 +1,4 @@
 -- `mesh_closed::triangle_uses` meets its contract. Assumes nothing.
-use borrow.Author.Rules.{rules}
 use native.Mathlib.Omega.{arith}
 use Rattle.mesh_triples.specs.Triples.{triple_at}
 use Rattle.mesh_closed.proofs.Counts.{round_most}

@@ -1,7 +1,6 @@
 -- `mesh_made::short_work` meets its contract. Assumes nothing.
 use mathlib.Core.Path.{refl}
 use Rattle.mesh_made.specs.Made.{short_work}
-use borrow.Author.Rules.{rules}
 use Rattle.mesh_made.proofs.short_work.Goals as goal
 
 pub returns : goal.returns

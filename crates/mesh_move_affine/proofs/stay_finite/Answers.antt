@@ -1,43 +1,16 @@
--- `mesh_move_affine::stay_finite` meets its contract: ok and what is left to test decide as the whole does. Assumes nothing.
-use mathlib.Core.Path.{refl, ap, ◌∙◌}
-use Prim.Native.Nat.{◌-◌}
-use native.Mathlib.Omega.{arith}
-use Rattle.math.specs.Vec.{v_finite}
+-- `mesh_move_affine::stay_finite` meets its contract: an affine matrix moves a finite point without a division. Assumes nothing.
+use mathlib.Core.Path.{◌≡◌, ◌∙◌}
 use Rattle.math_matrix.specs.Mat.{transform_point}
-use Rattle.mesh_triples.proofs.PointLoops.{Testing, testing_turn, testing_end}
+use Rattle.mesh_spec.specs.Slices.{vertex_at}
 use Rattle.mesh_move_affine.specs.Affine.{affine_point}
 use Rattle.mesh_move_affine.proofs.AffineLaws.{affine_vertex}
+use borrow.Author.Rules.{rules}
 use Rattle.mesh_move_affine.proofs.stay_finite.Goals as goal
-
-pub loop-i-init : goal.loop-i-init
-loop-i-init c = (omega arith, refl)
-
-pub vertex-requires : goal.vertex-requires
-vertex-requires c = omega arith
-
-pub affine_point-requires : goal.affine_point-requires
-affine_point-requires c = tt
-
-pub is_finite-ok-requires : goal.is_finite-ok-requires
-is_finite-ok-requires c = tt
-
-pub overflow_add-i : goal.overflow_add-i
-overflow_add-i c = omega arith
-
-pub loop-i-smaller : goal.loop-i-smaller
-loop-i-smaller c = omega arith
-
-pub loop-i-preserved : goal.loop-i-preserved
-loop-i-preserved c =
-    let s = c in
-    let a = s.args in
-    let l = c.loop-i in
-    let m = affine_vertex a.vertices.now a.n a.a s.requires l.i (omega arith) in
-    let e = c.affine_point.ensures ∙ ap (affine_point a.a) c.vertex.ensures ∙ m in
-    testing_turn (transform_point a.a) a.vertices.now a.n (omega arith) l.ok c.is_finite-ok.result l.i (omega arith) (c.is_finite-ok.ensures ∙ ap v_finite e) l.invariant
 
 pub returns : goal.returns
 returns c =
     let a = c.args in
-    let l = c.loop-i in
-    testing_end (transform_point a.a) a.vertices.now a.n (omega arith) l.ok l.i (omega arith) l.invariant
+    c.all_finite_by.ensures (transform_point a.a)
+    (λ i h q e.
+    let is : q ≡ affine_point a.a (vertex_at a.vertices.now i) = search rules in
+    is ∙ affine_vertex a.vertices.now a.n a.a c.requires i h)

@@ -1,7 +1,5 @@
 -- `mesh_sums::area_sum` meets its contract: what is left is added to the sum so far. Assumes nothing.
-use mathlib.Core.Path.{◌≡◌, refl}
-use Prim.Native.Nat.{◌≤◌, ◌<◌, ◌-◌, ◌+◌, ◌*◌}
-use lib.ListN.{drop}
+use mathlib.Core.Path.{refl}
 use lib.Ieee.{binary64, of_bits}
 use Rattle.mesh_spec.specs.Measures.{sum_of, area_term}
 use Rattle.mesh_triples.specs.Triples.{corners_at, corners_of}
@@ -16,12 +14,6 @@ pub area_term-sum-requires : goal.area_term-sum-requires
 area_term-sum-requires c =
     let a = c.args in
     corners_within a.vertices.now a.triangles.now a.k c.loop-i.i c.requires (omega arith)
-
-pub overflow_add-i : goal.overflow_add-i
-overflow_add-i c = omega arith
-
-pub loop-i-smaller : goal.loop-i-smaller
-loop-i-smaller c = omega arith
 
 pub loop-i-preserved : goal.loop-i-preserved
 loop-i-preserved c =

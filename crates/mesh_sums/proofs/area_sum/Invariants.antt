@@ -1,16 +1,11 @@
 -- `mesh_sums::area_sum` meets its contract: what is left is added to the sum so far. Assumes nothing.
-use mathlib.Core.Path.{◌≡◌, refl}
-use Prim.Native.Nat.{◌≤◌, ◌<◌, ◌-◌, ◌+◌, ◌*◌}
+use mathlib.Core.Path.{◌≡◌}
+use Prim.Native.Nat.{◌≤◌}
 use lib.ListN.{drop}
 use lib.Ieee.{binary64, of_bits}
 use Rattle.mesh_spec.specs.Measures.{sum_of, area_term}
-use Rattle.mesh_triples.specs.Triples.{corners_at, corners_of}
-use Rattle.mesh_sums.proofs.Terms.{corners_within, next_corners, length_corners, sum_turn, sum_ended}
-use native.Mathlib.Omega.{arith}
+use Rattle.mesh_triples.specs.Triples.{corners_of}
 use Rattle.mesh_sums.proofs.area_sum.Given as goal
 
 abbrev pub invariant-loop-i : goal.invariant-loop-i
 invariant-loop-i l = (l.i ≤ l.k) × (sum_of area_term l.sum (drop l.i (corners_of l.vertices l.triangles l.k)) ≡ sum_of area_term (of_bits binary64 0) (corners_of l.vertices l.triangles l.k))
-
-abbrev pub decreases-loop-i : goal.decreases-loop-i
-decreases-loop-i l = l.k - l.i

@@ -4,7 +4,6 @@ use lib.Ieee.{binary64, of_bits, of_int}
 use Rattle.root.specs.Sqrt.{sqrt}
 use Rattle.math.specs.Vec.{norm}
 use Rattle.mesh_sums.proofs.Terms.{area_value}
-use borrow.Author.Rules.{rules}
 use Rattle.mesh_sums.proofs.area_term.Goals as goal
 
 pub returns : goal.returns

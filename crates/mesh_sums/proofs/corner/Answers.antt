@@ -3,7 +3,6 @@ use mathlib.Core.Path.{ap, ◌∙◌}
 use Rattle.math.specs.declared.Vec3.{Vec3}
 use Prim.Native.Nat.{ℕ}
 use Rattle.mesh_spec.specs.Slices.{vertex_at}
-use borrow.Author.Rules.{rules}
 use Rattle.mesh_sums.proofs.corner.Goals as goal
 
 pub returns : goal.returns

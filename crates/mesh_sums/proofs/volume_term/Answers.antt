@@ -1,6 +1,5 @@
 -- `mesh_sums::volume_term` meets its contract. Assumes nothing.
 use Rattle.mesh_sums.proofs.Terms.{volume_value}
-use borrow.Author.Rules.{rules}
 use Rattle.mesh_sums.proofs.volume_term.Goals as goal
 
 pub returns : goal.returns

@@ -1,9 +1,8 @@
 -- `mesh_write::turn_all` meets its contract: the triangles before i are turned. Assumes nothing.
-use mathlib.Core.Path.{◌≡◌, refl, ap, ◌∙◌}
-use Prim.Native.Nat.{◌≤◌, ◌<◌, ◌-◌, ◌+◌, ◌*◌}
+use mathlib.Core.Path.{refl, ap, ◌∙◌}
+use Prim.Native.Nat.{◌+◌}
 use lib.ListN.{length}
 use Rattle.mesh_balance_spec.specs.Soup.{flip_tri}
-use Rattle.mesh_triples.specs.Triples.{each_to}
 use Rattle.mesh_triples.proofs.Each.{each_none, length_each, each_turn, each_end}
 use native.Mathlib.Omega.{arith}
 use Rattle.mesh_write.proofs.turn_all.Goals as goal
@@ -13,12 +12,6 @@ loop-i-init c = (omega arith, refl, each_none flip_tri c.args.triangles.now)
 
 pub turn-requires : goal.turn-requires
 turn-requires c = omega arith
-
-pub overflow_add-i : goal.overflow_add-i
-overflow_add-i c = omega arith
-
-pub loop-i-smaller : goal.loop-i-smaller
-loop-i-smaller c = omega arith
 
 pub loop-i-preserved : goal.loop-i-preserved
 loop-i-preserved c =

@@ -1,16 +1,18 @@
 -- `outline_ears::is_ear` meets its contract. Assumes nothing.
-use Rattle.outline_ears.proofs.Laws.{is_ear_not, is_ear_is}
+use Rattle.std.proofs.Common.{sym, ◌∙◌}
+use Rattle.outline_ears.proofs.Laws.{is_ear_not, is_ear_is, ear_at}
 use Rattle.outline_ears.proofs.is_ear.Goals as goal
 
-pub returns-then-kinds-k-ne-EAR : goal.returns-then-kinds-k-ne-EAR
-returns-then-kinds-k-ne-EAR c =
-    let d = c in
-    let a = d.args in
-    is_ear_not a.v.now a.eps a.idx.now a.kinds.now a.m d.requires.1 d.requires.2 a.k d.requires.0 c.if-kinds-k-ne-EAR.true
+pub returns-then-eq : goal.returns-then-eq
+returns-then-eq c =
+    let a = c.args in
+    let w = a.left.now in
+    is_ear_is a.v.now a.eps w.idx w.kinds w.m c.requires.1 c.requires.2 a.k c.requires.0
+    (ear_at w.kinds a.k c.eq.ensures c.if-eq.true) c.triangle_at.ensures c.blocked.ensures
 
-pub returns : goal.returns
-returns c =
-    let d = c in
-    let a = d.args in
-    is_ear_is a.v.now a.eps a.idx.now a.kinds.now a.m d.requires.1 d.requires.2 a.k d.requires.0
-    c.if-kinds-k-ne-EAR.false c.triangle_at-t.ensures c.blocked.ensures
+pub returns-else-eq : goal.returns-else-eq
+returns-else-eq c =
+    let a = c.args in
+    let w = a.left.now in
+    c.if-eq.false ∙ is_ear_not a.v.now a.eps w.idx w.kinds w.m c.requires.1 c.requires.2 a.k c.requires.0
+    (ear_at w.kinds a.k c.eq.ensures c.if-eq.false)

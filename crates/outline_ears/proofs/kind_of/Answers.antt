@@ -2,9 +2,6 @@
 use Rattle.outline_ears.proofs.Laws.{kind_flat, kind_neither, kind_ear}
 use Rattle.outline_ears.proofs.kind_of.Goals as goal
 
-pub abs-requires : goal.abs-requires
-abs-requires c = tt
-
 pub returns-then-abs-eps : goal.returns-then-abs-eps
 returns-then-abs-eps c = kind_flat _ _ c.abs.ensures c.if-cross-eps.true c.if-abs-eps.true
 

@@ -8,4 +8,4 @@ use Rattle.shape_arc.proofs.arc_segments.Goals as goal
 
 pub returns : goal.returns
 unfolding arc_segments
-returns c = c.larger.ensures ∙ (λ i. max ((c.ceil_to_usize.ensures ∙ (λ j. ceiling (c.arc_share.ensures j))) i) 1)
+returns c = c.max.ensures ∙ (λ i. max ((c.ceil_to_usize.ensures ∙ (λ j. ceiling (c.arc_share.ensures j))) i) 1)

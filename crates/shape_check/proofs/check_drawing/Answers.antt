@@ -6,17 +6,17 @@ use Rattle.shape_check.proofs.check_drawing.Goals as goal
 
 pub returns-then-many : goal.returns-then-many
 returns-then-many c =
-    let args = c.args in
+    let d = c.args.d.now in
     told_3
-    args.shape args.list.now args.own args.default args.options args.ops args.op_count args.degrees
+    d.shape d.list.now d.own d.default d.options d.operations.ops d.operations.count d.operations.degrees
     c.too_many_segments-many.ensures
     c.if-many.true
 
 pub returns-then-bad : goal.returns-then-bad
 returns-then-bad c =
-    let args = c.args in
+    let d = c.args.d.now in
     told_4
-    args.shape args.list.now args.own args.default args.options args.ops args.op_count args.degrees
+    d.shape d.list.now d.own d.default d.options d.operations.ops d.operations.count d.operations.degrees
     c.too_many_segments-many.ensures
     c.if-many.false
     c.bad_lists-bad.ensures
@@ -24,9 +24,9 @@ returns-then-bad c =
 
 pub returns-then-numbers_bad : goal.returns-then-numbers_bad
 returns-then-numbers_bad c =
-    let args = c.args in
+    let d = c.args.d.now in
     told_1
-    args.shape args.list.now args.own args.default args.options args.ops args.op_count args.degrees
+    d.shape d.list.now d.own d.default d.options d.operations.ops d.operations.count d.operations.degrees
     c.too_many_segments-many.ensures
     c.if-many.false
     c.bad_lists-bad.ensures
@@ -36,11 +36,11 @@ returns-then-numbers_bad c =
 
 pub returns-then-angles_bad : goal.returns-then-angles_bad
 returns-then-angles_bad c =
-    let args = c.args in
-    let two = angle_test args.shape args.list.now args.own args.default args.degrees (take args.op_count args.ops)
-    c.shape_cs.ensures c.is_cylindrical-cyl.ensures c.angles_bad.ensures in
+    let d = c.args.d.now in
+    let two = angle_test d.shape d.list.now d.own d.default d.operations.degrees (take d.operations.count d.operations.ops)
+    c.shape_cs.ensures c.is_cylindrical-cylindrical.ensures c.angles_bad.ensures in
     told_2
-    args.shape args.list.now args.own args.default args.options args.ops args.op_count args.degrees
+    d.shape d.list.now d.own d.default d.options d.operations.ops d.operations.count d.operations.degrees
     c.too_many_segments-many.ensures
     c.if-many.false
     c.bad_lists-bad.ensures
@@ -52,11 +52,11 @@ returns-then-angles_bad c =
 
 pub returns : goal.returns
 returns c =
-    let args = c.args in
-    let two = angle_test args.shape args.list.now args.own args.default args.degrees (take args.op_count args.ops)
-    c.shape_cs.ensures c.is_cylindrical-cyl.ensures c.angles_bad.ensures in
+    let d = c.args.d.now in
+    let two = angle_test d.shape d.list.now d.own d.default d.operations.degrees (take d.operations.count d.operations.ops)
+    c.shape_cs.ensures c.is_cylindrical-cylindrical.ensures c.angles_bad.ensures in
     told_none
-    args.shape args.list.now args.own args.default args.options args.ops args.op_count args.degrees
+    d.shape d.list.now d.own d.default d.options d.operations.ops d.operations.count d.operations.degrees
     c.too_many_segments-many.ensures
     c.if-many.false
     c.bad_lists-bad.ensures

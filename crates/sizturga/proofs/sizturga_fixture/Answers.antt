@@ -1,17 +1,16 @@
 -- `sizturga::sizturga_fixture` meets its contract. Assumes nothing.
-use borrow.Author.Rules.{rules}
 use mathlib.Core.Path.{◌≡◌, sym, ap, ◌∙◌}
 use Prim.Native.Nat.{ℕ}
-use Rattle.refusal.specs.declared.Refusal.TheVariants.{Accepted}
+use Rattle.refusal.specs.Answer.{Accepted, answer_of}
 use Rattle.refusal.specs.Number.{number_of}
 use Rattle.refusal.specs.Laws.{accepted_zero}
 use Rattle.sizturga.proofs.sizturga_fixture.Goals as goal
 
 pub returns : goal.returns
 returns c =
-    let p = c.plan-why in
+    let p = c.plan in
     let e = p.ensures in
-    let zero : c.number.result ≡ 0 → p.result ≡ Accepted = λ z. accepted_zero p.result (sym c.number.ensures ∙ z) in
+    let zero : c.number.result ≡ 0 → answer_of p.result ≡ Accepted = λ z. accepted_zero (answer_of p.result) (sym c.number.ensures ∙ z) in
     record {
       number = c.number.ensures ∙ ap {B = ℕ} number_of e.refusal;
       output = e.output;

@@ -10,6 +10,3 @@ use Rattle.slice_byte_lists.proofs.put_floats.Given as goal
 
 abbrev pub invariant-loop-i : goal.invariant-loop-i
 invariant-loop-i l = (l.i ≤ length l.v) × (length l.b ≡ length l.initial.b) × (l.b ≡ with_floats l.i l.v l.initial.b)
-
-abbrev pub decreases-loop-i : goal.decreases-loop-i
-decreases-loop-i l = length l.v - l.i

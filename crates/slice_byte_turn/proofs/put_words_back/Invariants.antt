@@ -7,8 +7,5 @@ use Rattle.slice_bytes_law.specs.Words.{length_with_word}
 use Rattle.slice_byte_turn.proofs.Backwards.{Written, none_written, more_written, all_written}
 use Rattle.slice_byte_turn.proofs.put_words_back.Given as goal
 
-abbrev pub invariant-loop-i : goal.invariant-loop-i
-invariant-loop-i l = (l.i ≤ length l.v) × (l.at + 4 * l.i ≡ length l.initial.b) × (length l.b ≡ length l.initial.b) × Written l.v l.base l.initial.b l.b l.at l.i
-
-abbrev pub decreases-loop-i : goal.decreases-loop-i
-decreases-loop-i l = length l.v - l.i
+abbrev pub invariant-loop-x : goal.invariant-loop-x
+invariant-loop-x l = (l.at + 4 * l.x-index ≡ length l.initial.b) × (length l.b ≡ length l.initial.b) × Written l.v l.base l.initial.b l.b l.at l.x-index

@@ -1,34 +1,16 @@
 -- `slice_byte_turn::turn_words` meets its contract. The invariant: the first i and the last i numbers have changed places. Assumes nothing.
 use mathlib.Core.Path.{◌≡◌, refl, sym, ap, ◌∙◌, subst}
-use native.Mathlib.Omega.{arith}
+use Rattle.std.proofs.Common.{rules, arith}
 use Prim.Native.Nat.{ℕ, ◌+◌, ◌-◌, ◌/◌, ◌≤◌}
 use mathlib.Core.List.{List}
 use lib.ListN.{length}
 use Rattle.slice_byte_turn.proofs.Turned.{Bytes, Turned, none_turned, one_turned, all_turned, length_exchanged}
 use Rattle.slice_byte_turn.proofs.turn_words.Goals as goal
 
-pub least-pairs-requires : goal.least-pairs-requires
-least-pairs-requires c = tt
-
 pub loop-i-init : goal.loop-i-init
 loop-i-init c =
     let b = c.args.b.now in
-    (omega arith, refl, λ i h. (c.slice_known-1.given i).fits, none_turned b (length b / 4))
-
-pub overflow_sub-m : goal.overflow_sub-m
-overflow_sub-m c = omega arith
-
-pub overflow_sub-m-in-loop-i : goal.overflow_sub-m-in-loop-i
-overflow_sub-m-in-loop-i c = omega arith
-
-pub exchange-requires : goal.exchange-requires
-exchange-requires c = (omega arith, omega arith)
-
-pub overflow_add-i : goal.overflow_add-i
-overflow_add-i c = omega arith
-
-pub loop-i-smaller : goal.loop-i-smaller
-loop-i-smaller c = omega arith
+    (refl, search rules, none_turned b (length b / 4))
 
 pub loop-i-preserved : goal.loop-i-preserved
 loop-i-preserved c =
@@ -38,19 +20,18 @@ loop-i-preserved c =
     let b = t.args.b.now in
     let m = length b / 4 in
     let k = m - 1 - l.i in
-    let one = one_turned l.b l.i k l.invariant.2 (omega arith) (omega arith) b m (omega arith) l.invariant.3 in (
-      omega arith,
-      ap length x.exchange.ensures ∙ length_exchanged l.b l.i k ∙ l.invariant.1,
-      λ i h. (c.slice_known-in-loop-i-1.given i).fits,
+    let one = one_turned l.b l.i k l.invariant.1 (omega arith) (omega arith) b m (omega arith) l.invariant.2 in (
+      ap length x.exchange.ensures ∙ length_exchanged l.b l.i k ∙ l.invariant.0,
+      search rules,
       subst (λ (r : List ℕ). Turned b r m (l.i + 1)) (sym x.exchange.ensures) one,
     )
 
 pub shape_of-b : goal.shape_of-b
-shape_of-b c = c.loop-i.invariant.1
+shape_of-b c = c.loop-i.invariant.0
 
 pub returns : goal.returns
 returns c =
     let l = c.loop-i in
     let s = c in
     let b = s.args.b.now in
-    all_turned b l.b (length b / 4) s.args.n l.i s.requires.whole (omega arith) s.requires l.invariant.3 l.invariant.1 l.invariant.2
+    all_turned b l.b (length b / 4) s.args.n l.i s.requires.whole (omega arith) s.requires l.invariant.2 l.invariant.0 l.invariant.1

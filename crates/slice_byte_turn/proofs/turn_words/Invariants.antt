@@ -8,7 +8,4 @@ use Rattle.slice_byte_turn.proofs.Turned.{Bytes, Turned, none_turned, one_turned
 use Rattle.slice_byte_turn.proofs.turn_words.Given as goal
 
 abbrev pub invariant-loop-i : goal.invariant-loop-i
-invariant-loop-i l = (l.i ≤ l.pairs) × (length l.b ≡ length l.initial.b) × Bytes l.b × Turned l.initial.b l.b l.m l.i
-
-abbrev pub decreases-loop-i : goal.decreases-loop-i
-decreases-loop-i l = l.pairs - l.i
+invariant-loop-i l = (length l.b ≡ length l.initial.b) × Bytes l.b × Turned l.initial.b l.b l.m l.i

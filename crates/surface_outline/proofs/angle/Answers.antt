@@ -7,7 +7,7 @@ use borrow.Author.Rules.{rules}
 use Rattle.surface_outline.proofs.angle.Goals as goal
 
 pub int_to_float-result : goal.int_to_float-result
-int_to_float-result c = of_nat_in _ (omega (arith, mod-lt c.args.k c.requires.fact_1))
+int_to_float-result c = of_nat_in _ (omega (arith, mod-lt c.args.k c.requires.n_positive))
 
 pub int_to_float-result-then-full : goal.int_to_float-result-then-full
 int_to_float-result-then-full c = of_nat_in _ (omega arith)

@@ -7,7 +7,7 @@ use borrow.Author.Rules.{rules}
 use Rattle.surface_sphere.proofs.longitude.Goals as goal
 
 pub int_to_float-k : goal.int_to_float-k
-int_to_float-k c = of_nat_in _ (omega (arith, mod-lt c.args.j c.requires.fact_1))
+int_to_float-k c = of_nat_in _ (omega (arith, mod-lt c.args.j c.requires.np_positive))
 
 pub int_to_float-np : goal.int_to_float-np
 int_to_float-np c = of_nat_in _ (omega arith)

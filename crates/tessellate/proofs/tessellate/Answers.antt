@@ -4,9 +4,8 @@ use lib.ListN.{length}
 use borrow.Author.Rules.{rules}
 use Rattle.mesh_made.specs.Made.{lent, Ending, made_as}
 use Rattle.mesh_made.proofs.Ending.{lent_same, gives_as, makes_lie, makes_gives}
-use Rattle.tessellate_spec.specs.Outcome.{job, final_mesh, refusal_of, tessellate_of}
+use Rattle.tessellate_spec.specs.Outcome.{job_of, final_mesh, refusal_of, tessellate_of}
 use Rattle.tessellate_law.proofs.PromiseLaws.{promised}
-use Rattle.tessellate.proofs.Floats.{solid_fits}
 use Rattle.tessellate.proofs.tessellate.Goals as goal
 
 pub end-requires : goal.end-requires
@@ -18,7 +17,7 @@ returns c =
     let e = c in
     let m = e in
     let a = m.args in
-    let j = job a.shape a.list.now a.own a.default a.options a.degrees a.ops a.op_count in
+    let j = job_of a.d.now in
     let n = lent a.vertices.now a.triangles.now a.work.now in
     let v = m.make-made.new.vertices in
     let t = m.make-made.new.triangles in
@@ -26,7 +25,7 @@ returns c =
     let lv : length v ≡ length a.vertices.now = e.vertices-1.given in
     let lt : length t ≡ length a.triangles.now = e.triangles-1.given in
     let lw : length w ≡ length a.work.now = e.work-1.given in
-    promised j n _ _ _ _ (solid_fits a.shape a.list.now _ m.well_formed.0 m.shared_slice_known-1.given)
+    promised j n _ _ _ _ c.are_floats.ensures
     (gives_as
     (ap {B = Ending} (made_as (refusal_of j n) (final_mesh j)) (lent_same v a.vertices.now t a.triangles.now w a.work.now lv lt lw))
     (makes_gives (refusal_of j n) (final_mesh j) m.make-made.result v t w m.make-made.ensures _ _ _ _ e.end.ensures))

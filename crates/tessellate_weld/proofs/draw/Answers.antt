@@ -1,55 +1,37 @@
 -- `tessellate_weld::draw` meets its contract. Assumes nothing.
-use mathlib.Core.Path.{sym, ◌∙◌}
+use mathlib.Core.Path.{refl}
 use borrow.Author.Rules.{rules}
-use borrow.Author.Tests.{not-true, not-false}
+use Rattle.std.specs.Prelude.{Ok, Err}
+use Rattle.refusal.specs.Laws.{refused_is, passed_on}
 use Rattle.mesh_made.specs.Made.{lent}
-use Rattle.tessellate_spec.specs.Outcome.{job}
+use Rattle.mesh_made.proofs.Ending.{makes_is}
+use Rattle.tessellate_spec.specs.Outcome.{job_of}
 use Rattle.tessellate_weld.proofs.Drawing.{drawable, in_system, parts_refused, whole, completed}
 use Rattle.tessellate_weld.proofs.draw.Goals as goal
 
-pub weld_all-made-requires : goal.weld_all-made-requires
-weld_all-made-requires c =
-    let s = c in
-    let a = s.args in
-    let j = job a.shape a.list.now a.own a.default a.options a.degrees a.ops a.op_count in
-    (drawable j s.requires.drawing, s.requires.work)
+pub weld_all-requires : goal.weld_all-requires
+weld_all-requires c = (drawable (job_of c.args.d.now) c.requires.drawing, c.requires.work)
 
-pub returns-then-not-is_accepted : goal.returns-then-not-is_accepted
-returns-then-not-is_accepted c =
-    let d = c in
-    let s = d in
-    let a = s.args in
-    let j = job a.shape a.list.now a.own a.default a.options a.degrees a.ops a.op_count in
+pub returns-in_err-mesh : goal.returns-in_err-mesh
+returns-in_err-mesh c =
+    let a = c.args in
+    let j = job_of a.d.now in
     let n = lent a.vertices.now a.triangles.now a.work.now in
-    let vs = d.weld_all-made.new.vertices in
-    let ts = d.weld_all-made.new.triangles in
-    let M = in_system j n d.weld_all-made.result vs ts d.shape_cs.result d.is_cylindrical-cylindrical.result
-    d.shape_cs.ensures d.is_cylindrical-cylindrical.ensures d.weld_all-made.ensures in
-    parts_refused j n d.weld_all-made.result vs ts s.requires M (sym c.is_accepted.ensures ∙ c.if-not-is_accepted.true)
+    let M = in_system j n _ _ _ c.shape_cs.result c.is_cylindrical-cylindrical.result c.shape_cs.ensures c.is_cylindrical-cylindrical.ensures c.in_err-mesh.ensures in
+    makes_is (passed_on c.from_residual.result c.in_err-mesh.field-0.0 c.from_residual.ensures.1) (parts_refused j n _ _ _ c.requires M (refused_is _))
 
 pub complete-requires : goal.complete-requires
 complete-requires c =
-    let d = c in
-    let s = d in
-    let a = s.args in
-    let j = job a.shape a.list.now a.own a.default a.options a.degrees a.ops a.op_count in
+    let a = c.args in
+    let j = job_of a.d.now in
     let n = lent a.vertices.now a.triangles.now a.work.now in
-    let vs = d.weld_all-made.new.vertices in
-    let ts = d.weld_all-made.new.triangles in
-    let M = in_system j n d.weld_all-made.result vs ts d.shape_cs.result d.is_cylindrical-cylindrical.result
-    d.shape_cs.ensures d.is_cylindrical-cylindrical.ensures d.weld_all-made.ensures in
-    whole j n d.weld_all-made.result vs ts s.requires M (sym c.is_accepted.ensures ∙ c.if-not-is_accepted.false)
+    let M = in_system j n _ _ _ c.shape_cs.result c.is_cylindrical-cylindrical.result c.shape_cs.ensures c.is_cylindrical-cylindrical.ensures c.in_ok-mesh.ensures in
+    whole j n _ _ _ c.requires M refl
 
 pub returns : goal.returns
 returns c =
-    let d = c in
-    let s = d in
-    let a = s.args in
-    let j = job a.shape a.list.now a.own a.default a.options a.degrees a.ops a.op_count in
+    let a = c.args in
+    let j = job_of a.d.now in
     let n = lent a.vertices.now a.triangles.now a.work.now in
-    let vs = d.weld_all-made.new.vertices in
-    let ts = d.weld_all-made.new.triangles in
-    let M = in_system j n d.weld_all-made.result vs ts d.shape_cs.result d.is_cylindrical-cylindrical.result
-    d.shape_cs.ensures d.is_cylindrical-cylindrical.ensures d.weld_all-made.ensures in
-    completed j n d.weld_all-made.result vs ts s.requires M (sym c.is_accepted.ensures ∙ c.if-not-is_accepted.false)
-    d.is_rot_poly-rotated.result d.is_rot_poly-rotated.ensures _ _ _ c.complete.ensures
+    let M = in_system j n _ _ _ c.shape_cs.result c.is_cylindrical-cylindrical.result c.shape_cs.ensures c.is_cylindrical-cylindrical.ensures c.in_ok-mesh.ensures in
+    completed j n _ _ _ c.requires M refl c.is_rot_poly-rotated.result c.is_rot_poly-rotated.ensures _ _ _ c.complete.ensures

@@ -1,53 +1,42 @@
 -- `tessellate_weld::weld_all` meets its contract. Assumes nothing.
-use mathlib.Core.Path.{◌≡◌, refl, ap}
+use mathlib.Core.Path.{◌≡◌, refl, sym, ap, ◌∙◌}
 use native.Mathlib.Omega.{arith}
 use lib.ListN.{length}
 use borrow.Author.Rules.{rules}
-use Rattle.refusal.specs.declared.Refusal.{Refusal}
-use Rattle.weld.specs.declared.Welder.{Welder}
-use Rattle.weld.specs.Rep.{held}
+use Rattle.refusal.specs.Answer.{Answer}
+use Rattle.weld.specs.Welding.{held_by}
 use Rattle.weld.specs.PartsLaws.{parts_welded}
 use Rattle.mesh_made.specs.Steps.{parts_refusal}
-use Rattle.mesh_made.proofs.Ending.{lent_same, makes_as, makes_is}
+use Rattle.mesh_made.proofs.Ending.{lent_same, makes_as}
 use Rattle.mesh_made.proofs.Judging.{work_enough, welded_makes}
 use Rattle.solid_spec.specs.Solid.{parts_of}
-use Rattle.tessellate_weld.proofs.Welding.{bounded, listed}
+use Rattle.tessellate_weld.proofs.Welding.{bounded, listed, welded_in}
 use Rattle.tessellate_weld.proofs.weld_all.Goals as goal
 
-pub begin-b-requires : goal.begin-b-requires
-begin-b-requires c =
-    let s = c in
-    work_enough (length s.args.vertices.now) (length s.args.work.now) s.requires.1
+pub begin-st-requires : goal.begin-st-requires
+begin-st-requires c = work_enough (length c.args.vertices.now) (length c.args.work.now) c.requires.1
 
-pub weld_shape-w-requires : goal.weld_shape-w-requires
-weld_shape-w-requires c =
-    let s = c in
-    let a = s.args in
-    record { ready = c.begin-b.ensures.ready a.triangles.now; few_segments = (bounded a.shape a.list.now a.options s.requires.0, listed a.shape a.list.now a.options s.requires.0) }
-
--- shown of the welder before the welding too, so that must-fail/empty_mesh_for_each breaks what is returned and not this
-pub judge-requires : goal.judge-requires
-judge-requires c =
-    let d = c in
-    let b = d in
-    let l = d.weld_shape-w.ensures.ready.linked.distinct in
-    let none : b.begin-b.result.count ≡ 0 = ap (λ (w : Welder). w.count) b.begin-b.ensures.answer in
-    omega (arith, l.room, l.fits, none)
+pub weld_shape-requires : goal.weld_shape-requires
+weld_shape-requires c =
+    let a = c.args in
+    record { ready = c.begin-st.ensures.ready a.triangles.now; few_segments = (bounded a.shape a.list.now a.options c.requires.0, listed a.shape a.list.now a.options c.requires.0) }
 
 pub returns : goal.returns
 returns c =
-    let d = c in
-    let b = d in
-    let a = b.args in
+    let a = c.args in
     let parts = parts_of a.cylindrical a.shape a.list.now a.options in
-    let vs = d.weld_shape-w.new.vertices in
-    let ts = d.weld_shape-w.new.triangles in
-    let ws = d.weld_shape-w.new.work in
-    let k = held d.weld_shape-w.result vs ts ws in
-    let lv : length vs ≡ length a.vertices.now = search rules in
-    let lt : length ts ≡ length a.triangles.now = search rules in
-    let lw : length ws ≡ length a.work.now = search rules in
-    makes_is c.judge.ensures
-    (makes_as (ap {B = Refusal} (parts_refusal parts) (lent_same vs a.vertices.now ts a.triangles.now ws a.work.now lv lt lw)) refl
+    let r = c.weld_shape.new.w in
+    let vs = r.vertices.now in
+    let ts = r.triangles.now in
+    let ws = r.work.now in
+    let k = held_by r in
+    let R = c.weld_shape.ensures in
+    let lv : length vs ≡ length a.vertices.now = R.runs.vlong in
+    let lt : length ts ≡ length a.triangles.now = R.runs.tlong in
+    let lw : length ws ≡ length a.work.now = R.runs.wlong ∙ c.begin-st.auto.work in
+    let fv = c.vertices-1.given.1.1 (sym R.same.vertices) in
+    let ft = c.triangles-1.given.1.1 (sym R.same.triangles) in
+    welded_in r.st fv ft c.judge.ensures
+    (makes_as (ap {B = Answer} (parts_refusal parts) (lent_same vs a.vertices.now ts a.triangles.now ws a.work.now lv lt lw)) refl
     (welded_makes parts k
-    (parts_welded parts b.begin-b.result a.vertices.now a.triangles.now b.begin-b.new.work k b.begin-b.ensures d.weld_shape-w.ensures)))
+    (parts_welded parts c.begin-st.result a.vertices.now a.triangles.now c.begin-st.new.work k c.begin-st.ensures R.runs)))

@@ -1,32 +1,18 @@
--- `transform::fold` meets its contract. The loop's invariant: `acc` is the matrix of the first `i` operations.
--- The measure is how many are left. Assumes nothing.
-use mathlib.Core.Path.{◌≡◌, ap, ◌∙◌}
-use Prim.Native.Nat.{◌≤◌, ◌-◌}
-use native.Mathlib.Omega.{arith}
-use borrow.Author.Rules.{rules}
-use lib.ListN.{length, take}
+-- `transform::fold` meets its contract. Assumes nothing.
+use Rattle.std.proofs.Common.{rules, ◌≡◌, ◌+◌, subst, take}
 use Rattle.transform.specs.Ops.{fold_from, folded}
-use Rattle.transform.specs.OpsLaws.{take_most}
 use Rattle.transform.proofs.OpsLawsHeld.{folded_one_more}
 use Rattle.transform.proofs.fold.Goals as goal
 
-pub loop-i-init : goal.loop-i-init
+pub loop-op-init : goal.loop-op-init
 unfolding folded fold_from
-loop-i-init c = (omega arith, c.identity-acc.ensures)
+loop-op-init c = search rules
 
-pub loop-i-preserved : goal.loop-i-preserved
-loop-i-preserved c =
-    let args = c.args in
-    let at = c.loop-i in
-    let long : length args.ops ≡ 16 = search rules in
-    let inside : at.i ≤ 15 = omega arith in (
-      omega arith,
-      folded_one_more args.ops at.i _ (omega arith) args.degrees at.invariant.1 c.op_matrix.ensures c.product-acc.ensures,
-    )
-
-pub returns : goal.returns
-returns c =
-    let args = c.args in
-    let at = c.loop-i in
-    let long : length args.ops ≡ 16 = search rules in
-    at.invariant.1 ∙ ap (folded args.degrees) (take_most args.ops args.count at.i long (omega arith))
+pub loop-op-preserved : goal.loop-op-preserved
+loop-op-preserved c =
+    let degrees = c.args.o.now.degrees in
+    let l = c.loop-op in
+    let ops = c.applied-op-items in
+    subst (λ s. l.acc ≡ folded degrees (take l.op-index s) → c.product-acc.result ≡ folded degrees (take (l.op-index + 1) s)) ops.ensures
+    (λ a. folded_one_more ops.result.now l.op-index _ (search rules) degrees a c.op_matrix.ensures c.product-acc.ensures)
+    l.invariant

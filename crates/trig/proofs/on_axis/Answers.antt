@@ -1,6 +1,5 @@
 -- `trig::on_axis` meets its contract, by cases on the number. Assumes nothing.
-use mathlib.Core.Path.{◌≡◌, refl, sym, ap}
-use Prim.Native.Nat.{ℕ, zero, suc}
+use Rattle.std.proofs.Common.{rules, ◌≡◌, refl, sym, ap, ℕ, zero, suc}
 use lib.Ieee.{of_bits, of_int, neg}
 use Rattle.trig_spec.specs.Trig.{on_axis}
 use Rattle.trig.proofs.on_axis.Goals as goal
@@ -12,18 +11,18 @@ last (suc zero) a b d = absurd (b refl)
 last (suc (suc zero)) a b d = absurd (d refl)
 last (suc (suc (suc k))) a b d = refl
 
-pub returns-then-k-eq0 : goal.returns-then-k-eq0
+pub returns-in-0 : goal.returns-in-0
 unfolding on_axis of_bits of_int
-returns-then-k-eq0 c = sym (ap on_axis c.if-k-eq0.true)
+returns-in-0 c = sym (ap on_axis c.in-0.is)
 
-pub returns-then-k-eq1 : goal.returns-then-k-eq1
+pub returns-in-1 : goal.returns-in-1
 unfolding on_axis of_bits of_int
-returns-then-k-eq1 c = sym (ap on_axis c.if-k-eq1.true)
+returns-in-1 c = sym (ap on_axis c.in-1.is)
 
-pub returns-then-k-eq2 : goal.returns-then-k-eq2
+pub returns-in-2 : goal.returns-in-2
 unfolding on_axis of_bits of_int neg
-returns-then-k-eq2 c = sym (ap on_axis c.if-k-eq2.true)
+returns-in-2 c = sym (ap on_axis c.in-2.is)
 
-pub returns-else-k-eq2 : goal.returns-else-k-eq2
+pub returns-in_default : goal.returns-in_default
 unfolding on_axis of_bits of_int neg
-returns-else-k-eq2 c = last c.args.k c.if-k-eq0.false c.if-k-eq1.false c.if-k-eq2.false
+returns-in_default c = last c.args.k (search rules) (search rules) (search rules)

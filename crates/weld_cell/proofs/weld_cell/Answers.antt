@@ -5,12 +5,10 @@ use Rattle.weld_cell.proofs.weld_cell.Goals as goal
 
 pub returns-then-flip : goal.returns-then-flip
 returns-then-flip c =
-    let s = c.args in
-    let q = c.weld_quad-q in
-    cell_flipped s.a s.b s.c s.d _ q.result _ _ _ s.flip c.if-flip.true q.ensures
+    let r = c.weld_quad-r in
+    record { same = r.ensures.same; numbered = cell_flipped c.args.p _ _ r.result c.args.flip c.if-flip.true r.ensures.numbered }
 
 pub returns : goal.returns
 returns c =
-    let s = c.args in
-    let q = c.weld_quad in
-    cell_straight s.a s.b s.c s.d _ q.result _ _ _ s.flip c.if-flip.false q.ensures
+    let r = c.weld_quad in
+    record { same = r.ensures.same; numbered = cell_straight c.args.p _ _ r.result c.args.flip c.if-flip.false r.ensures.numbered }

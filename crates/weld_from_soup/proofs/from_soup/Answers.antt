@@ -15,17 +15,16 @@ end-requires c = makes_lie _ _ _ _ _ c.make-made.ensures
 pub returns : goal.returns
 unfolding from_soup_of
 returns c =
-    let e = c in
-    let m = e in
-    let a = m.args in
+    let m = c.make-made in
+    let a = c.args in
     let l = a.soup.now in
     let n = lent a.vertices.now a.triangles.now a.work.now in
-    let vs = m.make-made.new.vertices in
-    let ts = m.make-made.new.triangles in
-    let ws = m.make-made.new.work in
+    let vs = m.new.vertices in
+    let ts = m.new.triangles in
+    let ws = m.new.work in
     let lv : length vs ≡ length a.vertices.now = search rules in
     let lt : length ts ≡ length a.triangles.now = search rules in
     let lw : length ws ≡ length a.work.now = search rules in
     soup_promised l n _ _ _ _
     (gives_as (ap {B = Ending} (made_as (soup_refusal l n) (from_soup (soup_of l))) (lent_same vs a.vertices.now ts a.triangles.now ws a.work.now lv lt lw))
-    (makes_gives (soup_refusal l n) (from_soup (soup_of l)) m.make-made.result vs ts ws m.make-made.ensures _ _ _ _ e.end.ensures))
+    (makes_gives (soup_refusal l n) (from_soup (soup_of l)) m.result vs ts ws m.ensures _ _ _ _ c.end.ensures))

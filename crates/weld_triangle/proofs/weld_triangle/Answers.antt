@@ -1,57 +1,38 @@
 -- `weld_triangle::weld_triangle` meets its contract: a case of proofs/Triangle.antt for each return. Assumes nothing.
 use borrow.Author.Rules.{rules}
-use borrow.Author.Tests.{not-true, not-false}
-use mathlib.Core.Path.{sym, ◌∙◌}
+use mathlib.Core.Path.{refl, sym, ◌∙◌}
 use mathlib.Core.Logic.{inl, inr}
-use Rattle.weld.specs.Rep.{held}
-use Rattle.weld.specs.Runs.{runs_stopped}
+use Rattle.weld.specs.Welding.{welds_stopped}
 use Rattle.weld_triangle.proofs.Triangle.{triangle_stops, triangle_runs}
 use Rattle.weld_triangle.proofs.weld_triangle.Goals as goal
+use Rattle.weld_triangle.proofs.weld_triangle.Goals.{else-is_finite-via-then-is_finite+then-is_finite-2+else-is_finite-3, else-is_finite-via-then-is_finite+else-is_finite-2, else-is_finite-via-else-is_finite}
 
-pub returns-then-not-finite : goal.returns-then-not-finite
-returns-then-not-finite c =
+pub returns-then-not-w : goal.returns-then-not-w
+returns-then-not-w c = let s = c in welds_stopped _ s.args.w.now s.requires c.if-not-w.true
+
+pub returns-then-is_finite-3 : goal.returns-then-is_finite-3
+returns-then-is_finite-3 c =
     let s = c in
-    runs_stopped _ (held s.args.w s.args.vertices.now s.args.triangles.now s.args.work.now) s.requires c.if-not-finite.true
+    record {
+      same = c.weld_points.ensures.same;
+      runs =
+          triangle_runs s.args.a s.args.b s.args.c _ _ _ _ _
+          (sym c.is_finite.ensures ∙ c.if-is_finite.true)
+          (sym c.is_finite-then-is_finite.ensures ∙ c.if-is_finite-2.true)
+          (sym c.is_finite-then-is_finite-2.ensures ∙ c.if-is_finite-3.true)
+          c.plus_zero.ensures.0 c.plus_zero-then-is_finite-3.ensures.0 c.plus_zero-then-is_finite-3-2.ensures.0 c.weld_points.ensures.runs;
+    }
 
-pub returns-then-not-is_finite : goal.returns-then-not-is_finite
-returns-then-not-is_finite c =
+pub returns-else-is_finite : goal.returns-else-is_finite
+returns-else-is_finite c =
     let s = c in
-    rw c.stopped.ensures (triangle_stops s.args.w s.args.vertices.now s.args.triangles.now s.args.work.now s.args.a s.args.b
-    s.args.c s.requires (inl (sym c.is_finite.ensures ∙ c.if-not-is_finite.true)))
-
-pub returns-then-not-is_finite-2 : goal.returns-then-not-is_finite-2
-returns-then-not-is_finite-2 c =
-    let s = c in
-    rw c.stopped-then-not-is_finite-2.ensures (triangle_stops s.args.w s.args.vertices.now s.args.triangles.now s.args.work.now s.args.a s.args.b
-    s.args.c s.requires (inr (inl (sym c.is_finite-2.ensures ∙ c.if-not-is_finite-2.true))))
-
-pub returns-then-not-is_finite-3 : goal.returns-then-not-is_finite-3
-returns-then-not-is_finite-3 c =
-    let s = c in
-    rw c.stopped-then-not-is_finite-3.ensures (triangle_stops s.args.w s.args.vertices.now s.args.triangles.now s.args.work.now s.args.a s.args.b
-    s.args.c s.requires (inr (inr (sym c.is_finite-3.ensures ∙ c.if-not-is_finite-3.true))))
-
-pub plus_zero-requires : goal.plus_zero-requires
-plus_zero-requires c =
-    sym c.is_finite.ensures ∙ c.if-not-is_finite.false
-
-pub plus_zero-requires-2 : goal.plus_zero-requires-2
-plus_zero-requires-2 c =
-    sym c.is_finite-2.ensures ∙ c.if-not-is_finite-2.false
-
-pub plus_zero-requires-3 : goal.plus_zero-requires-3
-plus_zero-requires-3 c =
-    sym c.is_finite-3.ensures ∙ c.if-not-is_finite-3.false
-
-pub returns : goal.returns
-returns c =
-    let s = c in
-    triangle_runs s.args.a s.args.b s.args.c _ _ _ _ _
-    (sym c.is_finite.ensures ∙ c.if-not-is_finite.false)
-    (sym c.is_finite-2.ensures
-    ∙ c.if-not-is_finite-2.false)
-    (sym c.is_finite-3.ensures ∙ c.if-not-is_finite-3.false)
-    c.plus_zero.ensures.0
-    c.plus_zero-2.ensures.0
-    c.plus_zero-3.ensures.0
-    c.weld_points.ensures
+    let w = s.args.w.now in
+    record {
+      same = record { vertices = refl; triangles = refl; work = refl };
+      runs = rw c.stop.ensures (triangle_stops w.st w.vertices.now w.triangles.now w.work.now s.args.a s.args.b s.args.c s.requires
+          (elim c.else-is_finite.branch [
+            | else-is_finite-via-then-is_finite+then-is_finite-2+else-is_finite-3 t ↦ inr (inr (sym t.is_finite-then-is_finite-2.ensures ∙ t.if-is_finite-3.false))
+            | else-is_finite-via-then-is_finite+else-is_finite-2 t ↦ inr (inl (sym t.is_finite-then-is_finite.ensures ∙ t.if-is_finite-2.false))
+            | else-is_finite-via-else-is_finite t ↦ inl (sym c.is_finite.ensures ∙ t.if-is_finite.false)
+          ]));
+    }

@@ -1,5 +1,5 @@
 -- `c_solids::meshes::sizturga_bench_flip` meets its contract, by that of `mesh::flip`. Assumes nothing.
-use Rattle.c_solids.proofs.Told.{boxed_record, leaves}
+use Rattle.c_solids.proofs.Telling.{boxed_record, leaves}
 use borrow.Author.Rules.{rules}
 use Rattle.c_solids.proofs.meshes.sizturga_bench_flip.Goals as goal
 
@@ -7,5 +7,5 @@ pub returns : goal.returns
 returns c =
     let a = c in
     let b = a in
-    rw (← boxed_record b.record_of.ensures b.box_in.ensures)
-    (leaves a.flip-e.ensures c.number.ensures c.put_box.ensures)
+    rw (← boxed_record b.record_of-m.ensures b.box_in.ensures)
+    (leaves a.flip-made.ensures c.tell.ensures.number c.tell.ensures.mesh)

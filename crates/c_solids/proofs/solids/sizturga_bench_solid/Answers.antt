@@ -1,5 +1,5 @@
 -- `c_solids::solids::sizturga_bench_solid` meets its contract, by that of `tessellate::tessellate`. Assumes nothing.
-use Rattle.c_solids.proofs.Told.{tells}
+use Rattle.c_solids.proofs.Telling.{tells}
 use borrow.Author.Rules.{rules}
 use Rattle.c_solids.proofs.solids.sizturga_bench_solid.Goals as goal
 
@@ -7,5 +7,5 @@ pub returns : goal.returns
 returns c =
     let a = c in
     let b = a in
-    rw (← b.system-default.ensures, ← b.shape_of-shape.ensures)
-    (tells a.tessellate-t.ensures.outcome c.number.ensures c.put_box.ensures)
+    rw (← b.system.ensures, ← b.shape_of.ensures)
+    (tells a.tessellate-made.ensures.outcome c.empty_record.ensures c.tell.ensures.number c.tell.ensures.mesh)

@@ -1,6 +1,5 @@
 -- `figures_text::counts::put_refusal` meets its contract. Assumes nothing.
 use Rattle.slice_text.specs.LineLaws.{then}
-use borrow.Author.Rules.{rules}
 use Rattle.figures_text.proofs.counts.put_refusal.Goals as goal
 
 pub returns : goal.returns

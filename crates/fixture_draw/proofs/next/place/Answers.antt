@@ -1,5 +1,4 @@
 -- `fixture_draw::next::place` meets its contract. Assumes nothing.
-use borrow.Author.Rules.{rules}
 use mathlib.Core.Path.{sym}
 use Prim.Native.Nat.{◌*◌}
 use lib.Seq.{length-take-le}

@@ -1,7 +1,5 @@
 -- `fixture_next::job::next_job` meets its contract. Assumes nothing.
-use borrow.Author.Rules.{rules}
 use native.Mathlib.Omega.{arith}
-use mathlib.Core.Path.{refl}
 use Rattle.fixture_next.proofs.Here.{solid_here}
 use Rattle.fixture_next.proofs.Jobs.{no_job, one_job}
 use Rattle.fixture_next.proofs.job.next_job.Goals as goal
@@ -10,8 +8,7 @@ pub returns-then-file-place : goal.returns-then-file-place
 returns-then-file-place c =
     let n = c.next_solid-n in
     let s = c.args in
-    no_job s.file.now s.at s.options s.default n.result.at n.result.settings n.ensures (omega arith) _ c.joined.result refl refl
-    c.joined.ensures
+    no_job s.file.now s.at s.options s.default n.result.at n.result.settings n.ensures (omega arith)
 
 pub solid_at-f-requires : goal.solid_at-f-requires
 solid_at-f-requires c =
@@ -23,4 +20,4 @@ returns c =
     let n = c.next_solid-n in
     let s = c.args in
     one_job s.file.now s.at s.options s.default n.result.at n.result.settings n.ensures (omega arith) c.solid_at-f.result
-    c.solid_at-f.ensures c.joined-2.result c.joined-2.ensures
+    c.solid_at-f.ensures c.joined.result c.joined.ensures

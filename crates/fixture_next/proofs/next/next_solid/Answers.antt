@@ -1,10 +1,8 @@
 -- `fixture_next::next::next_solid` meets its contract. Assumes nothing.
 use native.Mathlib.Omega.{arith}
 use mathlib.Core.Path.{sym, ◌∙◌}
-use Prim.Native.Nat.{◌-◌}
-use lib.ListN.{length}
 use Rattle.fixture_next.proofs.Here.{fits_here, sound_lent}
-use Rattle.fixture_next.proofs.Reading.{Reading, start, step, found, at_end}
+use Rattle.fixture_next.proofs.Reading.{start, step, found, at_end}
 use Rattle.fixture_next.proofs.next.next_solid.Goals as goal
 
 pub loop-at-init : goal.loop-at-init

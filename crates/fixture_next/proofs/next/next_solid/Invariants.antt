@@ -1,10 +1,7 @@
 -- `fixture_next::next::next_solid` meets its contract. Assumes nothing.
-use native.Mathlib.Omega.{arith}
-use mathlib.Core.Path.{sym, ◌∙◌}
 use Prim.Native.Nat.{◌-◌}
 use lib.ListN.{length}
-use Rattle.fixture_next.proofs.Here.{fits_here, sound_lent}
-use Rattle.fixture_next.proofs.Reading.{Reading, start, step, found, at_end}
+use Rattle.fixture_next.proofs.Reading.{Reading}
 use Rattle.fixture_next.proofs.next.next_solid.Given as goal
 
 abbrev pub invariant-loop-at : goal.invariant-loop-at

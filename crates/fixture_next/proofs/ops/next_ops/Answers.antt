@@ -1,10 +1,8 @@
 -- `fixture_next::ops::next_ops` meets its contract. Assumes nothing.
 use native.Mathlib.Omega.{arith}
 use mathlib.Core.Path.{sym, ◌∙◌}
-use Prim.Native.Nat.{◌-◌}
-use lib.ListN.{length}
 use Rattle.fixture_next.proofs.Here.{fits_here, sound_five}
-use Rattle.fixture_next.proofs.Sixteen.{Gathered, start, more, other, found, at_end}
+use Rattle.fixture_next.proofs.Sixteen.{start, more, other, found, at_end}
 use Rattle.fixture_next.proofs.ops.next_ops.Goals as goal
 
 pub loop-place-init : goal.loop-place-init

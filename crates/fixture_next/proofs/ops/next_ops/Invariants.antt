@@ -1,10 +1,7 @@
 -- `fixture_next::ops::next_ops` meets its contract. Assumes nothing.
-use native.Mathlib.Omega.{arith}
-use mathlib.Core.Path.{sym, ◌∙◌}
 use Prim.Native.Nat.{◌-◌}
 use lib.ListN.{length}
-use Rattle.fixture_next.proofs.Here.{fits_here, sound_five}
-use Rattle.fixture_next.proofs.Sixteen.{Gathered, start, more, other, found, at_end}
+use Rattle.fixture_next.proofs.Sixteen.{Gathered}
 use Rattle.fixture_next.proofs.ops.next_ops.Given as goal
 
 abbrev pub invariant-loop-place : goal.invariant-loop-place

@@ -1,5 +1,4 @@
 -- `fixture_next::ops::with_op` meets its contract. Assumes nothing.
-use borrow.Author.Rules.{rules}
 use native.Mathlib.Omega.{arith}
 use Rattle.fixture_next.proofs.Sixteen.{stored, kept}
 use Rattle.fixture_next.proofs.ops.with_op.Goals as goal

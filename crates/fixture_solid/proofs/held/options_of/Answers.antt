@@ -1,5 +1,4 @@
 -- `fixture_solid::held::options_of` meets its contract. Assumes nothing.
-use borrow.Author.Rules.{rules}
 use Rattle.fixture_solid.proofs.held.options_of.Goals as goal
 
 pub returns : goal.returns

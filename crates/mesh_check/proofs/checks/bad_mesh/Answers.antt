@@ -1,11 +1,9 @@
 -- `mesh_check::checks::bad_mesh` meets its contract: the three tests in their order. Assumes nothing.
-use mathlib.Core.Path.{◌≡◌, sym, ap, ◌∙◌, subst}
-use Prim.Native.Nat.{ℕ, ◌*◌, ◌≤◌, ◌<◌}
+use Prim.Native.Nat.{◌≤◌}
 use lib.ListN.{length}
 use Rattle.slice.specs.Every.{counted_places}
 use Rattle.mesh_check.specs.State.{state}
 use Rattle.mesh_check.proofs.Sound.{bad_vertices, bad_triangles, bad_numbers, places_three, places_limit}
-use borrow.Author.Rules.{rules}
 use native.Mathlib.Omega.{arith}
 use Rattle.mesh_check.proofs.checks.bad_mesh.Goals as goal
 

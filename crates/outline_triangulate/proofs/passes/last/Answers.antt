@@ -7,9 +7,6 @@ use Rattle.outline_triangulate.proofs.Steps.{triangle_cut, flat_cut}
 use borrow.Author.Rules.{rules}
 use Rattle.outline_triangulate.proofs.passes.last.Goals as goal
 
-pub shape_of-out-then-cross-eps : goal.shape_of-out-then-cross-eps
-shape_of-out-then-cross-eps c = c.out-1.given
-
 pub returns-then-cross-eps : goal.returns-then-cross-eps
 returns-then-cross-eps c =
     let r = c in

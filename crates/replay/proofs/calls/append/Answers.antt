@@ -4,4 +4,4 @@ use Rattle.replay.proofs.Leaves.{leaves}
 use Rattle.replay.proofs.calls.append.Goals as goal
 
 pub returns : goal.returns
-returns c = leaves c.append-e.ensures c.answered.ensures
+returns c = leaves c.append-made.ensures c.edited.ensures

@@ -4,4 +4,4 @@ use Rattle.replay.proofs.Leaves.{leaves}
 use Rattle.replay.proofs.calls.flip.Goals as goal
 
 pub returns : goal.returns
-returns c = leaves c.flip-e.ensures c.answered.ensures
+returns c = leaves c.flip-made.ensures c.edited.ensures

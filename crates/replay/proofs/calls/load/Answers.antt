@@ -4,4 +4,4 @@ use borrow.Author.Rules.{rules}
 use Rattle.replay.proofs.calls.load.Goals as goal
 
 pub returns : goal.returns
-returns c = c.answered.ensures ∙ c.claimed_mesh-m.ensures
+returns c = c.edited.ensures ∙ c.claimed_mesh-m.ensures

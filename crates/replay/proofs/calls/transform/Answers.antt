@@ -4,4 +4,4 @@ use Rattle.replay.proofs.Leaves.{leaves}
 use Rattle.replay.proofs.calls.transform.Goals as goal
 
 pub returns : goal.returns
-returns c = leaves c.transform-e.ensures c.answered.ensures
+returns c = leaves c.transform-made.ensures c.edited.ensures

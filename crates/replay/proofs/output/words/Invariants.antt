@@ -1,12 +1,7 @@
--- `replay::output::words` is safe and ends: each block leaves fewer to write. Assumes nothing.
+-- `replay::output::words` is safe: a block has no more than buf holds. Assumes nothing.
 use mathlib.Core.Path.{◌≡◌}
-use native.Mathlib.Omega.{arith}
-use Prim.Native.Nat.{ℕ, ◌≤◌, ◌-◌}
-use lib.ListN.{length, length-replicate}
+use Rattle.std.specs.Slice.Iter.{chunks_size}
 use Rattle.replay.proofs.output.words.Given as goal
 
-abbrev pub invariant-loop-i : goal.invariant-loop-i
-invariant-loop-i l = (l.i ≤ length l.v) × (length l.buf ≡ 16384)
-
-abbrev pub decreases-loop-i : goal.decreases-loop-i
-decreases-loop-i l = length l.v - l.i
+abbrev pub invariant-loop-block : goal.invariant-loop-block
+invariant-loop-block l = chunks_size l.block-iterator ≡ 4096

@@ -1,5 +1,4 @@
 -- `replay_format::head::bounds_of` meets its contract. Assumes nothing.
-use borrow.Author.Rules.{rules}
 use Rattle.replay_format.proofs.head.bounds_of.Goals as goal
 
 pub returns : goal.returns

@@ -1,6 +1,5 @@
 -- `replay_format::head::head_of` meets its contract. Assumes nothing.
 use Rattle.replay_format.proofs.Heads.{head_is}
-use borrow.Author.Rules.{rules}
 use Rattle.replay_format.proofs.head.head_of.Goals as goal
 
 pub returns : goal.returns

@@ -7,12 +7,6 @@ use Rattle.replay_head.specs.Kept.{ops_read}
 use Rattle.replay_head.proofs.Reading.{reading_none, reading_more, reading_done}
 use Rattle.replay_head.proofs.kept.ops.Goals as goal
 
-pub least-requires : goal.least-requires
-least-requires c = tt
-
-pub least-n-requires : goal.least-n-requires
-least-n-requires c = tt
-
 pub loop-i-init : goal.loop-i-init
 loop-i-init c = (omega arith, omega arith, omega arith, reading_none _)
 
@@ -21,18 +15,6 @@ overflow_mul-i c = omega arith
 
 pub op_at-op-requires : goal.op_at-op-requires
 op_at-op-requires c = omega arith
-
-pub offset_bounds-out-i : goal.offset_bounds-out-i
-offset_bounds-out-i c = omega arith
-
-pub bounds-out-i : goal.bounds-out-i
-bounds-out-i c = omega arith
-
-pub overflow_add-i : goal.overflow_add-i
-overflow_add-i c = omega arith
-
-pub loop-i-smaller : goal.loop-i-smaller
-loop-i-smaller c = omega arith
 
 pub loop-i-preserved : goal.loop-i-preserved
 loop-i-preserved c =

@@ -9,6 +9,3 @@ use Rattle.replay_head.proofs.kept.ops.Given as goal
 
 abbrev pub invariant-loop-i : goal.invariant-loop-i
 invariant-loop-i l = (l.i ≤ l.n) × (l.n ≡ min (min (length l.b / 136) l.count) 16) × (length l.out ≡ 16) × (l.out ≡ ops_read l.i l.b)
-
-abbrev pub decreases-loop-i : goal.decreases-loop-i
-decreases-loop-i l = l.n - l.i

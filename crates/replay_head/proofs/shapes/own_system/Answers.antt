@@ -5,14 +5,17 @@ use Rattle.replay_head.specs.Shapes.{own_system_of}
 use Rattle.slice_law.specs.Arms.{of_kind}
 use Rattle.replay_head.proofs.shapes.own_system.Goals as goal
 
-pub returns-then-x-eq0 : goal.returns-then-x-eq0
+pub returns-in-0 : goal.returns-in-0
 unfolding own_system_of
-returns-then-x-eq0 c = of_kind own_system_of 0 c.if-x-eq0.true refl
+returns-in-0 c = of_kind own_system_of 0 c.in-0.is refl
 
-pub returns-then-x-eq1 : goal.returns-then-x-eq1
+pub returns-in-1 : goal.returns-in-1
 unfolding own_system_of
-returns-then-x-eq1 c = of_kind own_system_of 1 c.if-x-eq1.true refl
+returns-in-1 c = of_kind own_system_of 1 c.in-1.is refl
 
-pub returns : goal.returns
+pub returns-in_default : goal.returns-in_default
 unfolding own_system_of
-returns c = let x = c.args.x in simp (ne_eqb x 0 c.if-x-eq0.false, ne_eqb x 1 c.if-x-eq1.false)
+returns-in_default c =
+    let n = c.in_default.in_default-own.rest in
+    let x = c.args.x in
+    simp (ne_eqb x 0 n.0.1, ne_eqb x 1 n.1)

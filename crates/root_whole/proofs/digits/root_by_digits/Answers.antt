@@ -1,5 +1,5 @@
 -- `root_whole::digits::root_by_digits` meets its contract. Assumes nothing.
-use Rattle.std.proofs.Common.{◌≡◌, ℕ, zero, suc, ◌+◌, ◌-◌, ◌*◌, ◌/◌, ◌^◌, ◌<◌, ◌≤◌, sym, refl, ap, ◌∙◌, lt_of_not-le, add-one, arith}
+use Rattle.std.proofs.Common.{◌≡◌, ℕ, zero, suc, ◌+◌, ◌-◌, ◌*◌, ◌/◌, ◌^◌, ◌<◌, ◌≤◌, sym, refl, ap, ◌∙◌, lt_of_not-le, add-one, subst, arith}
 use native.Mathlib.Nat.{pow-succ'}
 use Rattle.root_whole.proofs.Roots.{IsRoot, near_up, near_down, root_ge}
 use Rattle.root_whole.proofs.Turns.{Inv}
@@ -50,6 +50,10 @@ turn_down m n b q rest q' rest' i h t e f =
       room = rw (z, e) (omega arith);
     }
 
+-- after digit k
+next : (m k b q rest : ℕ) → Inv m (53 - k - 1) b q rest → Inv m (53 - (k + 1)) b q rest
+next m k b q rest i = let e : 53 - k - 1 ≡ 53 - (k + 1) = omega arith in subst (λ (n : ℕ). Inv m n b q rest) e i
+
 -- with no bits to come
 finished : (m q rest : ℕ) → 2 * (q * q) + rest * 1 ≡ m * 2 ^ 53 → rest < 4 * q + 2 * 1 → IsRoot (m * 2 ^ 52) q
 finished m q rest e h = record { low = omega arith; high = omega arith }
@@ -76,8 +80,8 @@ no_carry m q rest h e g u = lt_of_not-le (λ (k : 2 ^ 53 ≤ q + 1).
     let e' : 2 * ((2 ^ 53 - 1) * (2 ^ 53 - 1)) + rest ≡ m * 2 ^ 53 = rw v at e in
     omega arith)
 
-pub loop-n-init : goal.loop-n-init
-loop-n-init c = record { few = omega arith; half = refl; whole = omega arith; small = omega arith; room = omega arith }
+pub loop-k-init : goal.loop-k-init
+loop-k-init c = record { few = omega arith; half = refl; whole = omega arith; small = omega arith; room = omega arith }
 
 pub overflow_mul-t : goal.overflow_mul-t
 overflow_mul-t c = omega arith
@@ -91,18 +95,12 @@ overflow_add-q c = omega arith
 pub overflow_mul-rest : goal.overflow_mul-rest
 overflow_mul-rest c = elim c.if-t-rest.branch [ then-t-rest w ↦ omega arith | else-t-rest w ↦ omega arith ]
 
-pub overflow_sub-n : goal.overflow_sub-n
-overflow_sub-n c = omega arith
-
-pub loop-n-smaller : goal.loop-n-smaller
-loop-n-smaller c = omega arith
-
-pub loop-n-preserved : goal.loop-n-preserved
-loop-n-preserved c =
-    let l = c.loop-n in
+pub loop-k-preserved : goal.loop-k-preserved
+loop-k-preserved c =
+    let l = c.loop-k in
     elim c.if-t-rest.branch [
-      | then-t-rest w ↦ turn_up c.args.m l.n l.b l.q l.rest _ _ l.invariant (omega arith) w.if-t-rest.true w.q-is w.rest-is
-      | else-t-rest w ↦ turn_down c.args.m l.n l.b l.q l.rest _ _ l.invariant (omega arith) w.if-t-rest.false w.q-is w.rest-is
+      | then-t-rest w ↦ next _ l._k _ _ _ (turn_up c.args.m (53 - l._k) l.b l.q l.rest _ _ l.invariant (omega arith) w.if-t-rest.true w.q-is w.rest-is)
+      | else-t-rest w ↦ next _ l._k _ _ _ (turn_down c.args.m (53 - l._k) l.b l.q l.rest _ _ l.invariant (omega arith) w.if-t-rest.false w.q-is w.rest-is)
     ]
 
 pub overflow_mul-q : goal.overflow_mul-q
@@ -115,17 +113,17 @@ pub returns-then-rest-q : goal.returns-then-rest-q
 returns-then-rest-q c =
     let l = c in
     let m = l.args.m in
-    let q = l.loop-n.q in
-    let z = at_end m l.loop-n.n l.loop-n.b q l.loop-n.rest l.loop-n.invariant (omega arith) (omega arith) in (
+    let q = l.loop-k.q in
+    let z = at_end m (53 - l.loop-k._k) l.loop-k.b q l.loop-k.rest l.loop-k.invariant (omega arith) (omega arith) in (
       add-one q ∙ sym (near_up (m * 2 ^ 52) q z.is (omega (arith, z.whole))),
       omega (arith, z.lower),
-      no_carry m q l.loop-n.rest (omega arith) z.whole (omega arith) z.upper,
+      no_carry m q l.loop-k.rest (omega arith) z.whole (omega arith) z.upper,
     )
 
 pub returns-else-rest-q : goal.returns-else-rest-q
 returns-else-rest-q c =
     let l = c in
     let m = l.args.m in
-    let q = l.loop-n.q in
-    let z = at_end m l.loop-n.n l.loop-n.b q l.loop-n.rest l.loop-n.invariant (omega arith) (omega arith) in
+    let q = l.loop-k.q in
+    let z = at_end m (53 - l.loop-k._k) l.loop-k.b q l.loop-k.rest l.loop-k.invariant (omega arith) (omega arith) in
     (sym (near_down (m * 2 ^ 52) q z.is (omega (arith, z.whole))), z.lower, z.upper)

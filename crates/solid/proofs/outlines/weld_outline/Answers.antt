@@ -8,50 +8,17 @@ use Rattle.solid.proofs.outlines.weld_outline.Goals as goal
 pub weld_extruded-requires : goal.weld_extruded-requires
 weld_extruded-requires c = record { ready = c.requires.ready; n_bound = (omega (arith, c.direction.ensures.1), listed_as _ _ _ c.in-Polygon.is c.requires.segments_bound.1) }
 
-pub min-requires : goal.min-requires
-min-requires c = tt
-
-pub max-requires : goal.max-requires
-max-requires c = tt
-
 pub weld_extruded-requires-in-LinPoly : goal.weld_extruded-requires-in-LinPoly
 weld_extruded-requires-in-LinPoly c = record { ready = c.requires.ready; n_bound = (omega (arith, c.direction-in-LinPoly.ensures.1), listed_as _ _ _ c.in-LinPoly.is c.requires.segments_bound.1) }
 
 pub weld_rot_poly-requires : goal.weld_rot_poly-requires
 weld_rot_poly-requires c = record { ready = c.requires.ready; segments_bound = (c.requires.segments_bound.0, listed_as _ _ _ c.in-RotPoly.is c.requires.segments_bound.1) }
 
-pub shape_of-vertices-in-Polygon : goal.shape_of-vertices-in-Polygon
-shape_of-vertices-in-Polygon c = c.weld_extruded.ensures.vlong
-
-pub shape_of-triangles-in-Polygon : goal.shape_of-triangles-in-Polygon
-shape_of-triangles-in-Polygon c = c.weld_extruded.ensures.tlong
-
-pub shape_of-work-in-Polygon : goal.shape_of-work-in-Polygon
-shape_of-work-in-Polygon c = c.weld_extruded.ensures.wlong
-
 pub returns-in-Polygon : goal.returns-in-Polygon
 returns-in-Polygon c = outline_as _ _ _ _ _ _ c.in-Polygon.is (polygon_soup_lem _ _ _ _ _ _ c.direction.ensures.0 c.weld_extruded.ensures)
 
-pub shape_of-vertices-in-LinPoly : goal.shape_of-vertices-in-LinPoly
-shape_of-vertices-in-LinPoly c = c.weld_extruded-in-LinPoly.ensures.vlong
-
-pub shape_of-triangles-in-LinPoly : goal.shape_of-triangles-in-LinPoly
-shape_of-triangles-in-LinPoly c = c.weld_extruded-in-LinPoly.ensures.tlong
-
-pub shape_of-work-in-LinPoly : goal.shape_of-work-in-LinPoly
-shape_of-work-in-LinPoly c = c.weld_extruded-in-LinPoly.ensures.wlong
-
 pub returns-in-LinPoly : goal.returns-in-LinPoly
 returns-in-LinPoly c = outline_as _ _ _ _ _ _ c.in-LinPoly.is (lin_soup _ _ _ _ _ _ _ _ _ c.direction-in-LinPoly.ensures.0 c.min.ensures c.max.ensures c.weld_extruded-in-LinPoly.ensures)
-
-pub shape_of-vertices-in-RotPoly : goal.shape_of-vertices-in-RotPoly
-shape_of-vertices-in-RotPoly c = c.weld_rot_poly.ensures.vlong
-
-pub shape_of-triangles-in-RotPoly : goal.shape_of-triangles-in-RotPoly
-shape_of-triangles-in-RotPoly c = c.weld_rot_poly.ensures.tlong
-
-pub shape_of-work-in-RotPoly : goal.shape_of-work-in-RotPoly
-shape_of-work-in-RotPoly c = c.weld_rot_poly.ensures.wlong
 
 pub returns-in-RotPoly : goal.returns-in-RotPoly
 returns-in-RotPoly c = outline_as _ _ _ _ _ _ c.in-RotPoly.is c.weld_rot_poly.ensures

@@ -13,79 +13,25 @@ weld_wire-requires c = record { ready = c.requires.ready; segments_bound = (c.re
 pub weld_outline-requires : goal.weld_outline-requires
 weld_outline-requires c = record { ready = c.requires.ready; segments_bound = (c.requires.few_segments.0.segments, c.requires.few_segments.1) }
 
-pub new_part-requires : goal.new_part-requires
-new_part-requires c = tt
-
 pub weld_tube-requires : goal.weld_tube-requires
 weld_tube-requires c = record { ready = c.requires.ready; segments_bound = c.requires.few_segments.0.segments }
 
-pub new_part-requires-in-Cylinder : goal.new_part-requires-in-Cylinder
-new_part-requires-in-Cylinder c = tt
-
 pub weld_solid-requires : goal.weld_solid-requires
 weld_solid-requires c = record { ready = c.requires.ready; few_segments = c.requires.few_segments.0 }
-
-pub new_part-requires-in_default : goal.new_part-requires-in_default
-new_part-requires-in_default c = tt
-
-pub shape_of-vertices-in-MultiBox : goal.shape_of-vertices-in-MultiBox
-shape_of-vertices-in-MultiBox c = c.weld_multi_box.ensures.vlong
-
-pub shape_of-triangles-in-MultiBox : goal.shape_of-triangles-in-MultiBox
-shape_of-triangles-in-MultiBox c = c.weld_multi_box.ensures.tlong
-
-pub shape_of-work-in-MultiBox : goal.shape_of-work-in-MultiBox
-shape_of-work-in-MultiBox c = c.weld_multi_box.ensures.wlong
 
 pub returns-in-MultiBox : goal.returns-in-MultiBox
 unfolding parts_of
 returns-in-MultiBox c = shape_as _ _ _ _ _ _ _ c.in-MultiBox.is c.weld_multi_box.ensures
 
-pub shape_of-vertices-in-Wire : goal.shape_of-vertices-in-Wire
-shape_of-vertices-in-Wire c = c.weld_wire.ensures.vlong
-
-pub shape_of-triangles-in-Wire : goal.shape_of-triangles-in-Wire
-shape_of-triangles-in-Wire c = c.weld_wire.ensures.tlong
-
-pub shape_of-work-in-Wire : goal.shape_of-work-in-Wire
-shape_of-work-in-Wire c = c.weld_wire.ensures.wlong
-
 pub returns-in-Wire : goal.returns-in-Wire
 unfolding parts_of
 returns-in-Wire c = shape_as _ _ _ _ _ _ _ c.in-Wire.is c.weld_wire.ensures
 
-pub shape_of-vertices-in-Polygon : goal.shape_of-vertices-in-Polygon
-shape_of-vertices-in-Polygon c = c.weld_outline.ensures.vlong
-
-pub shape_of-triangles-in-Polygon : goal.shape_of-triangles-in-Polygon
-shape_of-triangles-in-Polygon c = c.weld_outline.ensures.tlong
-
-pub shape_of-work-in-Polygon : goal.shape_of-work-in-Polygon
-shape_of-work-in-Polygon c = c.weld_outline.ensures.wlong
-
 pub returns-in-Polygon : goal.returns-in-Polygon
-returns-in-Polygon c = outline_part c.args.shape _ _ c.args.options _ _ _ _ _ _ c.in-Polygon.in-Polygon-own.keys3 c.weld_outline.ensures c.new_part.ensures
-
-pub shape_of-vertices-in-Cylinder : goal.shape_of-vertices-in-Cylinder
-shape_of-vertices-in-Cylinder c = c.weld_tube.ensures.vlong
-
-pub shape_of-triangles-in-Cylinder : goal.shape_of-triangles-in-Cylinder
-shape_of-triangles-in-Cylinder c = c.weld_tube.ensures.tlong
-
-pub shape_of-work-in-Cylinder : goal.shape_of-work-in-Cylinder
-shape_of-work-in-Cylinder c = c.weld_tube.ensures.wlong
+returns-in-Polygon c = outline_part c.args.shape _ _ c.args.options _ _ _ c.in-Polygon.in-Polygon-own.keys3 c.weld_outline.ensures c.new_part.ensures
 
 pub returns-in-Cylinder : goal.returns-in-Cylinder
-returns-in-Cylinder c = tube_part c.args.shape _ _ c.args.options _ _ _ _ _ _ c.in-Cylinder.in-Cylinder-own.keys4 c.weld_tube.ensures c.new_part-in-Cylinder.ensures
-
-pub shape_of-vertices-in_default : goal.shape_of-vertices-in_default
-shape_of-vertices-in_default c = c.weld_solid.ensures.vlong
-
-pub shape_of-triangles-in_default : goal.shape_of-triangles-in_default
-shape_of-triangles-in_default c = c.weld_solid.ensures.tlong
-
-pub shape_of-work-in_default : goal.shape_of-work-in_default
-shape_of-work-in_default c = c.weld_solid.ensures.wlong
+returns-in-Cylinder c = tube_part c.args.shape _ _ c.args.options _ _ _ c.in-Cylinder.in-Cylinder-own.keys4 c.weld_tube.ensures c.new_part-in-Cylinder.ensures
 
 pub returns-in_default : goal.returns-in_default
-returns-in_default c = solid_part c.args.shape _ _ c.args.options _ _ _ _ _ _ c.in_default.in_default-own.keys5 c.weld_solid.ensures c.new_part-in_default.ensures
+returns-in_default c = solid_part c.args.shape _ _ c.args.options _ _ _ c.in_default.in_default-own.keys5 c.weld_solid.ensures c.new_part-in_default.ensures

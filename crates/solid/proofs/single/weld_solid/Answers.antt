@@ -7,47 +7,17 @@ use Rattle.solid.proofs.single.weld_solid.Goals as goal
 pub weld_box_shape-requires : goal.weld_box_shape-requires
 weld_box_shape-requires c = record { ready = c.requires.ready; segments_bound = c.requires.few_segments.segments }
 
-pub to_cartesian-c-requires : goal.to_cartesian-c-requires
-to_cartesian-c-requires c = tt
-
 pub weld_sphere-requires : goal.weld_sphere-requires
 weld_sphere-requires c = record { ready = c.requires.ready; segments_bound = (c.requires.few_segments.segments, c.requires.few_segments.rings) }
 
 pub weld_spherical_shell-requires : goal.weld_spherical_shell-requires
 weld_spherical_shell-requires c = record { ready = c.requires.ready; segments_bound = (c.requires.few_segments.segments, c.requires.few_segments.rings) }
 
-pub shape_of-vertices-in-Box : goal.shape_of-vertices-in-Box
-shape_of-vertices-in-Box c = c.weld_box_shape.ensures.vlong
-
-pub shape_of-triangles-in-Box : goal.shape_of-triangles-in-Box
-shape_of-triangles-in-Box c = c.weld_box_shape.ensures.tlong
-
-pub shape_of-work-in-Box : goal.shape_of-work-in-Box
-shape_of-work-in-Box c = c.weld_box_shape.ensures.wlong
-
 pub returns-in-Box : goal.returns-in-Box
 returns-in-Box c = solid_as _ _ _ _ _ _ c.in-Box.is c.weld_box_shape.ensures
 
-pub shape_of-vertices-in-Sphere : goal.shape_of-vertices-in-Sphere
-shape_of-vertices-in-Sphere c = c.weld_sphere.ensures.vlong
-
-pub shape_of-triangles-in-Sphere : goal.shape_of-triangles-in-Sphere
-shape_of-triangles-in-Sphere c = c.weld_sphere.ensures.tlong
-
-pub shape_of-work-in-Sphere : goal.shape_of-work-in-Sphere
-shape_of-work-in-Sphere c = c.weld_sphere.ensures.wlong
-
 pub returns-in-Sphere : goal.returns-in-Sphere
 returns-in-Sphere c = solid_as _ _ _ _ _ _ c.in-Sphere.is (sphere_soup_lem _ _ _ _ _ _ _ _ c.to_cartesian-c.ensures c.weld_sphere.ensures)
-
-pub shape_of-vertices-in-SphericalShell : goal.shape_of-vertices-in-SphericalShell
-shape_of-vertices-in-SphericalShell c = c.weld_spherical_shell.ensures.vlong
-
-pub shape_of-triangles-in-SphericalShell : goal.shape_of-triangles-in-SphericalShell
-shape_of-triangles-in-SphericalShell c = c.weld_spherical_shell.ensures.tlong
-
-pub shape_of-work-in-SphericalShell : goal.shape_of-work-in-SphericalShell
-shape_of-work-in-SphericalShell c = c.weld_spherical_shell.ensures.wlong
 
 pub returns-in-SphericalShell : goal.returns-in-SphericalShell
 returns-in-SphericalShell c = solid_as _ _ _ _ _ _ c.in-SphericalShell.is c.weld_spherical_shell.ensures

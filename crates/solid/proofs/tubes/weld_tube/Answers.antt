@@ -12,27 +12,9 @@ weld_between-requires c = record { ready = c.requires.ready; segments_bound = c.
 pub weld_between-requires-in-CylindricalShell : goal.weld_between-requires-in-CylindricalShell
 weld_between-requires-in-CylindricalShell c = record { ready = c.requires.ready; segments_bound = c.requires.segments_bound }
 
-pub shape_of-vertices-in-Cylinder : goal.shape_of-vertices-in-Cylinder
-shape_of-vertices-in-Cylinder c = c.weld_between.ensures.vlong
-
-pub shape_of-triangles-in-Cylinder : goal.shape_of-triangles-in-Cylinder
-shape_of-triangles-in-Cylinder c = c.weld_between.ensures.tlong
-
-pub shape_of-work-in-Cylinder : goal.shape_of-work-in-Cylinder
-shape_of-work-in-Cylinder c = c.weld_between.ensures.wlong
-
 pub returns-in-Cylinder : goal.returns-in-Cylinder
 unfolding cylinder_soup of_bits
 returns-in-Cylinder c = tube_as _ _ _ _ _ _ c.in-Cylinder.is c.weld_between.ensures
-
-pub shape_of-vertices-in-CylindricalShell : goal.shape_of-vertices-in-CylindricalShell
-shape_of-vertices-in-CylindricalShell c = c.weld_between-in-CylindricalShell.ensures.vlong
-
-pub shape_of-triangles-in-CylindricalShell : goal.shape_of-triangles-in-CylindricalShell
-shape_of-triangles-in-CylindricalShell c = c.weld_between-in-CylindricalShell.ensures.tlong
-
-pub shape_of-work-in-CylindricalShell : goal.shape_of-work-in-CylindricalShell
-shape_of-work-in-CylindricalShell c = c.weld_between-in-CylindricalShell.ensures.wlong
 
 pub returns-in-CylindricalShell : goal.returns-in-CylindricalShell
 unfolding cylindrical_shell_soup

@@ -1,20 +1,12 @@
 -- `solid_box::flat::weld_flat_box` meets its contract. Assumes nothing.
-use native.Mathlib.Omega.{arith}
 use mathlib.Core.Bool.{false}
-use Prim.Native.Nat.{◌-◌, ◌≤◌, zero-le}
 use Rattle.mesh_balance_spec.specs.Grid.{upto}
-use Rattle.weld.specs.Rep.{held, Runs}
-use Rattle.weld.specs.Runs.{runs_none}
+use Rattle.weld.specs.Welding.{Welds}
 use Rattle.surface_spec.specs.Faces.{three}
 use Rattle.surface_spec.specs.Surface.{mapped}
 use Rattle.solid_box.specs.Box.{face_of}
-use Rattle.solid_box.proofs.FaceRuns.{faces_more, box_runs}
 use Rattle.surface_spec.specs.declared.Chart.TheVariants.{Cartesian}
 use Rattle.solid_box.proofs.flat.weld_flat_box.Given as goal
 
 abbrev pub invariant-loop-f : goal.invariant-loop-f
-invariant-loop-f l =
-    (l.f ≤ 6) × Runs (upto l.f (face_of l.lo l.hi (three 1 1 1) (three false false false) (mapped Cartesian))) (held l.initial.st l.initial.vertices l.initial.triangles l.initial.work) (held l.st l.vertices l.triangles l.work)
-
-abbrev pub decreases-loop-f : goal.decreases-loop-f
-decreases-loop-f l = 6 - l.f
+invariant-loop-f l = Welds (upto l.f (face_of l.lo l.hi (three 1 1 1) (three false false false) (mapped Cartesian))) l.initial.w l.w

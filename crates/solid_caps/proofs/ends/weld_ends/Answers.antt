@@ -1,14 +1,8 @@
 -- `solid_caps::ends::weld_ends` meets its contract. Assumes nothing.
 use native.Mathlib.Omega.{arith}
-use borrow.Author.Rules.{rules}
 use Rattle.solid_caps.proofs.ends.weld_ends.Goals as goal
 
-pub weld_ends_by-requires : goal.weld_ends_by-requires
-weld_ends_by-requires c =
-    let d = c in
-    record { ready = d.requires.ready; p_len_bound = (d.requires.p_len_bound.0, d.requires.p_len_bound.1, d.requires.p_len_bound.2, omega arith) }
-
-pub weld_ends_by-requires-2 : goal.weld_ends_by-requires-2
-weld_ends_by-requires-2 c =
-    let d = c in
-    record { ready = d.requires.ready; p_len_bound = (d.requires.p_len_bound.0, d.requires.p_len_bound.1, d.requires.p_len_bound.2, omega arith) }
+pub weld_sized-requires : goal.weld_sized-requires
+weld_sized-requires c =
+    let p = c.requires in
+    record { ready = p.ready; p_len_bound = (p.p_len_bound.0, p.p_len_bound.1, omega arith, omega arith) }

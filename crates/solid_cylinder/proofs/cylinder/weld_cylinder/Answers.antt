@@ -12,15 +12,6 @@ pub returns-then-r1 : goal.returns-then-r1
 unfolding of_bits
 returns-then-r1 c = cylinder_thin _ _ _ _ _ _ _ _ c.requires.ready c.sub-v.ensures c.norm-len.ensures c.if-len.false c.if-r1.true
 
-pub shape_of-vertices : goal.shape_of-vertices
-shape_of-vertices c = c.weld_tube.ensures.vlong
-
-pub shape_of-triangles : goal.shape_of-triangles
-shape_of-triangles c = c.weld_tube.ensures.tlong
-
-pub shape_of-work : goal.shape_of-work
-shape_of-work c = c.weld_tube.ensures.wlong
-
 pub returns : goal.returns
 unfolding of_bits
 returns c = cylinder_runs _ _ _ _ _ _ _ _ _ _ c.sub-v.ensures

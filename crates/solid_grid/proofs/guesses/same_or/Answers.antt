@@ -1,38 +1,25 @@
 -- `solid_grid::guesses::same_or` meets its contract. Assumes nothing.
-use mathlib.Core.Path.{◌≡◌, refl}
+use mathlib.Core.Path.{◌≡◌, ◌∙◌, sym}
 use mathlib.Core.Bool.{Bool, true, false, ◌&&◌, cond}
 use Prim.Native.Nat.{ℕ}
 use lib.Ieee.{eq}
+use Rattle.std.proofs.Math.Bool.{and_assoc}
+use Rattle.math.specs.declared.Vec3.{Vec3}
 use Rattle.mesh_spec.specs.Mesh.{same_point}
 use Rattle.solid_grid.proofs.guesses.same_or.Goals as goal
 
-all_three : (a b c : Bool) (n other : ℕ) → a ≡ true → b ≡ true → c ≡ true → n ≡ cond (a && b && c) n other
-all_three a b c n other p q r = rw (p, q, r)
-
-not_third : (a b c : Bool) (n other : ℕ) → c ≡ false → other ≡ cond (a && b && c) n other
-not_third true true c n other p = rw p
-not_third true false c n other p = refl
-not_third false b c n other p = refl
-
-not_second : (a b c : Bool) (n other : ℕ) → b ≡ false → other ≡ cond (a && b && c) n other
-not_second true b c n other p = rw p
-not_second false b c n other p = refl
-
-not_first : (a b c : Bool) (n other : ℕ) → a ≡ false → other ≡ cond (a && b && c) n other
-not_first a b c n other p = rw p
-
-pub returns-then-p-q-3 : goal.returns-then-p-q-3
+regrouped : (p q : Vec3) → (eq p.x q.x && (eq p.y q.y && eq p.z q.z)) ≡ same_point p q
 unfolding same_point
-returns-then-p-q-3 c = all_three _ _ _ _ _ c.if-p-q.true c.if-p-q-2.true c.if-p-q-3.true
+regrouped p q = sym (and_assoc (eq p.x q.x) (eq p.y q.y) (eq p.z q.z))
 
-pub returns-else-p-q-3 : goal.returns-else-p-q-3
-unfolding same_point
-returns-else-p-q-3 c = let s = c.args in not_third (eq s.p.x s.q.x) (eq s.p.y s.q.y) _ _ _ c.if-p-q-3.false
+chosen : (b : Bool) (n other : ℕ) → b ≡ true → n ≡ cond b n other
+chosen b n other p = rw p
 
-pub returns-else-p-q-2 : goal.returns-else-p-q-2
-unfolding same_point
-returns-else-p-q-2 c = let s = c.args in not_second (eq s.p.x s.q.x) _ (eq s.p.z s.q.z) _ _ c.if-p-q-2.false
+not_chosen : (b : Bool) (n other : ℕ) → b ≡ false → other ≡ cond b n other
+not_chosen b n other p = rw p
 
-pub returns-else-p-q : goal.returns-else-p-q
-unfolding same_point
-returns-else-p-q c = let s = c.args in not_first _ (eq s.p.y s.q.y) (eq s.p.z s.q.z) _ _ c.if-p-q.false
+pub returns-then-eq : goal.returns-then-eq
+returns-then-eq c = let s = c.args in chosen _ s.n s.other (sym (c.eq.ensures ∙ regrouped s.p s.q) ∙ c.if-eq.true)
+
+pub returns-else-eq : goal.returns-else-eq
+returns-else-eq c = let s = c.args in not_chosen _ s.n s.other (sym (c.eq.ensures ∙ regrouped s.p s.q) ∙ c.if-eq.false)

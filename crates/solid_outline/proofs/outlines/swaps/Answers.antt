@@ -1,13 +1,13 @@
 -- `solid_outline::outlines::swaps` meets its contract. Assumes nothing.
-use mathlib.Core.Path.{refl}
-use Rattle.solid_outline.proofs.OutlineRuns.{swaps_not, swaps_so}
+use mathlib.Core.Path.{◌≡◌, sym, ap, ◌∙◌}
+use Prim.Native.Nat.{ℕ}
+use mathlib.Core.Bool.{not}
+use lib.Dec.{eqb}
+use Rattle.outline.specs.declared.Axes.{Axes}
+use Rattle.outline.specs.Axes.{plane_axes}
+use Rattle.solid_spec.specs.Polygons.{swaps}
 use Rattle.solid_outline.proofs.outlines.swaps.Goals as goal
 
-pub plane_axes-axes-requires : goal.plane_axes-axes-requires
-plane_axes-axes-requires c = tt
-
-pub returns-then-u-q : goal.returns-then-u-q
-returns-then-u-q c = swaps_not _ _ _ _ _ c.plane_axes-axes.ensures refl c.requires c.if-u-q.true
-
-pub returns-else-u-q : goal.returns-else-u-q
-returns-else-u-q c = swaps_so _ _ _ _ _ c.plane_axes-axes.ensures refl c.requires c.if-u-q.false
+pub returns : goal.returns
+unfolding swaps
+returns c = ap (λ (a : Axes). not (eqb a.u c.args.q)) c.plane_axes.ensures ∙ ap (λ (q : ℕ). not (eqb (plane_axes c.args.normal).u q)) c.requires

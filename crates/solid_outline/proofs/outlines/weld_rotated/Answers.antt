@@ -39,15 +39,6 @@ weld_rotated_from-requires c =
       );
     }
 
-pub shape_of-vertices : goal.shape_of-vertices
-shape_of-vertices c = c.weld_rotated_from.ensures.vlong
-
-pub shape_of-triangles : goal.shape_of-triangles
-shape_of-triangles c = c.weld_rotated_from.ensures.tlong
-
-pub shape_of-work : goal.shape_of-work
-shape_of-work c = c.weld_rotated_from.ensures.wlong
-
 pub returns : goal.returns
 returns c =
     rotpoly_runs _ _ _ _ _ _ _ _ _ _ _ refl c.swaps-swap.ensures c.prepare-len.ensures.front c.weld_rotated_from.ensures

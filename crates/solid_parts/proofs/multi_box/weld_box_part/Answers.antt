@@ -18,24 +18,12 @@ overflow_add-i c = omega (arith, c.requires.segments_bound.1)
 pub vertex-b-requires : goal.vertex-b-requires
 vertex-b-requires c = omega (arith, c.requires.segments_bound.1)
 
-pub weld_box_shape-boxed-requires : goal.weld_box_shape-boxed-requires
-weld_box_shape-boxed-requires c = record { ready = c.requires.ready; segments_bound = c.requires.segments_bound.0 }
-
-pub new_part-part-requires : goal.new_part-part-requires
-new_part-part-requires c = tt
-
-pub shape_of-vertices : goal.shape_of-vertices
-shape_of-vertices c = c.weld_box_shape-boxed.ensures.vlong
-
-pub shape_of-triangles : goal.shape_of-triangles
-shape_of-triangles c = c.weld_box_shape-boxed.ensures.tlong
-
-pub shape_of-work : goal.shape_of-work
-shape_of-work c = c.weld_box_shape-boxed.ensures.wlong
+pub weld_box_shape-requires : goal.weld_box_shape-requires
+weld_box_shape-requires c = record { ready = c.requires.ready; segments_bound = c.requires.segments_bound.0 }
 
 pub returns : goal.returns
 returns c =
     let a = c.args in
     let d = c in
     let w = d in
-    box_part a.list.now a.i _ _ _ _ _ _ _ _ _ _ w.vertex-a.ensures w.vertex-b.ensures d.weld_box_shape-boxed.ensures c.new_part-part.ensures
+    box_part a.list.now a.i _ _ _ _ _ _ _ w.vertex-a.ensures w.vertex-b.ensures d.weld_box_shape.ensures c.new_part.ensures

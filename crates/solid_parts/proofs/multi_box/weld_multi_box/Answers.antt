@@ -1,54 +1,22 @@
 -- `solid_parts::multi_box::weld_multi_box` meets its contract. Assumes nothing.
 use native.Mathlib.Omega.{arith}
 use mathlib.Core.Path.{◌≡◌, refl}
-use Prim.Native.Nat.{ℕ, ◌-◌, ◌/◌, ◌≤◌, zero-le}
+use Prim.Native.Nat.{ℕ, ◌/◌, ◌≤◌, ◌<◌}
 use lib.ListN.{length}
-use Rattle.weld.specs.Rep.{held}
-use Rattle.solid_spec.specs.Boxes.{parts}
-use Rattle.weld.specs.Parts.{PartsRun}
 use Rattle.solid_parts.proofs.PartRuns.{box_at, boxes_all, loop_none, loop_more}
 use Rattle.solid_parts.proofs.multi_box.weld_multi_box.Goals as goal
 
 pub loop-i-init : goal.loop-i-init
-loop-i-init c = let x = c in (zero-le, refl, loop_none (box_at x.args.cylindrical x.args.list.now x.args.segments) _ x.requires.ready)
+loop-i-init c = let x = c.args in (refl, loop_none (box_at x.cylindrical x.list.now x.segments) _ c.requires.ready)
 
-pub weld_box_part-st-requires : goal.weld_box_part-st-requires
-weld_box_part-st-requires c = record {
-  ready = c.loop-i.invariant.2.ready;
-  segments_bound = (
-    c.requires.segments_bound,
-    omega
-        (arith, c.loop-i-test.true, c.loop-i.invariant.1),
-  );
-}
-
-pub overflow_add-i : goal.overflow_add-i
-overflow_add-i c = omega (
-  arith,
-  c.loop-i-test.true,
-  c.loop-i.invariant.1,
-  c.well_formed.1.1.1.1.0.0,
-)
-
-pub loop-i-smaller : goal.loop-i-smaller
-loop-i-smaller c = omega (arith, c.loop-i-test.true)
+pub weld_box_part-requires : goal.weld_box_part-requires
+weld_box_part-requires c = record { ready = c.loop-i.invariant.1.runs.ready; segments_bound = (c.requires.segments_bound, omega (arith, c.loop-i.invariant.0)) }
 
 pub loop-i-preserved : goal.loop-i-preserved
-loop-i-preserved c = let x = c in
-    let l = c.loop-i in (
-      omega (arith, c.loop-i-test.true),
-      l.invariant.1,
-      loop_more (box_at x.args.cylindrical x.args.list.now x.args.segments) l.i _ _ _ l.invariant.2 c.weld_box_part-st.ensures,
-    )
-
-pub shape_of-vertices : goal.shape_of-vertices
-shape_of-vertices c = c.loop-i.invariant.2.vlong
-
-pub shape_of-triangles : goal.shape_of-triangles
-shape_of-triangles c = c.loop-i.invariant.2.tlong
-
-pub shape_of-work : goal.shape_of-work
-shape_of-work c = c.loop-i.invariant.2.wlong
+loop-i-preserved c =
+    let x = c.args in
+    let l = c.loop-i in
+    (l.invariant.0, loop_more (box_at x.cylindrical x.list.now x.segments) l.i _ _ _ l.invariant.1 c.weld_box_part.ensures)
 
 pub returns : goal.returns
-returns c = let l = c.loop-i in boxes_all _ _ _ l.i _ _ (omega (arith, l.invariant.0, l.invariant.1, c.loop-i-test.false)) l.invariant.2
+returns c = let l = c.loop-i in boxes_all _ _ _ l.i _ _ (omega (arith, l.invariant.0)) l.invariant.1

@@ -1,17 +1,11 @@
 -- `solid_parts::multi_box::weld_multi_box` meets its contract. Assumes nothing.
-use native.Mathlib.Omega.{arith}
-use mathlib.Core.Path.{◌≡◌, refl}
-use Prim.Native.Nat.{ℕ, ◌-◌, ◌/◌, ◌≤◌, zero-le}
+use mathlib.Core.Path.{◌≡◌}
+use Prim.Native.Nat.{ℕ, ◌-◌, ◌/◌}
 use lib.ListN.{length}
-use Rattle.weld.specs.Rep.{held}
+use Rattle.weld.specs.Welding.{WeldsParts}
 use Rattle.solid_spec.specs.Boxes.{parts}
-use Rattle.weld.specs.Parts.{PartsRun}
-use Rattle.solid_parts.proofs.PartRuns.{box_at, boxes_all, loop_none, loop_more}
+use Rattle.solid_parts.proofs.PartRuns.{box_at}
 use Rattle.solid_parts.proofs.multi_box.weld_multi_box.Given as goal
 
 abbrev pub invariant-loop-i : goal.invariant-loop-i
-invariant-loop-i l =
-    (l.i ≤ l.n) × (l.n ≡ length l.list / 6) × PartsRun (parts l.i (box_at l.cylindrical l.list l.segments)) (held l.initial.st l.initial.vertices l.initial.triangles l.initial.work) (held l.st l.vertices l.triangles l.work)
-
-abbrev pub decreases-loop-i : goal.decreases-loop-i
-decreases-loop-i l = l.n - l.i
+invariant-loop-i l = (l.n ≡ length l.list / 6) × WeldsParts (parts l.i (box_at l.cylindrical l.list l.segments)) l.initial.w l.w

@@ -13,21 +13,9 @@ overflow_add-i c = omega (arith, c.requires.segments_bound.1)
 pub wire_point-b-requires : goal.wire_point-b-requires
 wire_point-b-requires c = omega (arith, c.requires.segments_bound.1)
 
-pub weld_cylinder-tube-requires : goal.weld_cylinder-tube-requires
-weld_cylinder-tube-requires c = record { ready = c.requires.ready; segments_bound = c.requires.segments_bound.0 }
-
-pub new_part-part-requires : goal.new_part-part-requires
-new_part-part-requires c = tt
-
-pub shape_of-vertices : goal.shape_of-vertices
-shape_of-vertices c = c.weld_cylinder-tube.ensures.vlong
-
-pub shape_of-triangles : goal.shape_of-triangles
-shape_of-triangles c = c.weld_cylinder-tube.ensures.tlong
-
-pub shape_of-work : goal.shape_of-work
-shape_of-work c = c.weld_cylinder-tube.ensures.wlong
+pub weld_cylinder-requires : goal.weld_cylinder-requires
+weld_cylinder-requires c = record { ready = c.requires.ready; segments_bound = c.requires.segments_bound.0 }
 
 pub returns : goal.returns
 unfolding of_bits
-returns c = tube_part _ _ _ _ _ _ _ _ _ _ _ _ _ c.wire_point-a.ensures c.wire_point-b.ensures c.weld_cylinder-tube.ensures c.new_part-part.ensures
+returns c = tube_part _ _ _ _ _ _ _ _ _ _ c.wire_point-a.ensures c.wire_point-b.ensures c.weld_cylinder.ensures c.new_part.ensures

@@ -7,9 +7,6 @@ use Rattle.solid_parts.proofs.wire.wire_point.Goals as goal
 pub vertex-requires : goal.vertex-requires
 vertex-requires c = c.requires
 
-pub to_cartesian-requires : goal.to_cartesian-requires
-to_cartesian-requires c = tt
-
 pub returns : goal.returns
 unfolding wire_point
 returns c = c.to_cartesian.ensures ∙ ap (to_cartesian c.args.cylindrical) c.vertex.ensures

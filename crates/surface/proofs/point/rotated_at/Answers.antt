@@ -8,7 +8,7 @@ use borrow.Author.Rules.{rules}
 use Rattle.surface.proofs.point.rotated_at.Goals as goal
 
 pub corner-c-requires : goal.corner-c-requires
-corner-c-requires c = round_within _ _ _ _ c.requires.fact_1 c.requires.fact_2 c.round.ensures
+corner-c-requires c = round_within _ _ _ _ c.requires.len_positive c.requires.corners_held c.round.ensures
 
 pub returns : goal.returns
 unfolding on_rotated

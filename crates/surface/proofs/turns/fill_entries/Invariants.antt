@@ -10,6 +10,3 @@ use Rattle.surface.proofs.turns.fill_entries.Given as goal
 
 abbrev pub invariant-loop-k : goal.invariant-loop-k
 invariant-loop-k l = (l.k ≤ l.n + 1) × (length l.table ≡ length l.initial.table) × Entries (turn_at l.t) l.k l.table
-
-abbrev pub decreases-loop-k : goal.decreases-loop-k
-decreases-loop-k l = l.n + 1 - l.k

@@ -6,16 +6,16 @@ use borrow.Author.Rules.{rules}
 use Rattle.surface.proofs.turns.turn_at.Goals as goal
 
 pub latitude-requires : goal.latitude-requires
-latitude-requires c = let w = turns_as _ _ _ c.in-Latitudes.is c.requires in record { fact_1 = w.0; fact_2 = w.1 }
+latitude-requires c = let w = turns_as _ _ _ c.in-Latitudes.is c.requires in record { nt_in_bounds = w.0; i_in_bounds = w.1 }
 
 pub longitude-requires : goal.longitude-requires
-longitude-requires c = let w = turns_as _ _ _ c.in-Longitudes.is c.requires in record { fact_1 = w.0; fact_2 = w.1 }
+longitude-requires c = let w = turns_as _ _ _ c.in-Longitudes.is c.requires in record { np_positive = w.0; np_in_bounds = w.1 }
 
 pub line_at-requires : goal.line_at-requires
 line_at-requires c = turns_as _ _ _ c.in-OnLine.is c.requires
 
 pub angle-requires : goal.angle-requires
-angle-requires c = let w = turns_as _ _ _ c.in-Angles.is c.requires in record { fact_1 = w.0; fact_2 = w.1; fact_3 = w.2 }
+angle-requires c = let w = turns_as _ _ _ c.in-Angles.is c.requires in record { n_positive = w.0; n_in_bounds = w.1; k_in_bounds = w.2 }
 
 pub returns-in-Latitudes : goal.returns-in-Latitudes
 returns-in-Latitudes c = turn_as _ _ _ _ c.in-Latitudes.is (c.latitude.ensures ∙ turn_latitude _ _)

@@ -1,6 +1,6 @@
 -- `tessellate_place::place::complete` meets its contract. Assumes nothing.
 use mathlib.Core.Path.{◌≡◌, ap}
-use Rattle.refusal.specs.declared.Refusal.{Refusal}
+use Rattle.refusal.specs.Answer.{Answer}
 use Rattle.mesh_spec.specs.Mesh.{Mesh}
 use Rattle.mesh_check.specs.State.{state, mesh_of}
 use Rattle.mesh_check.proofs.Lying.{stored_whole, mesh_is}
@@ -30,6 +30,6 @@ returns c =
     let t = state a.mesh a.vertices.now u.turn_rotated.new.triangles in
     let e : mesh_of t ≡ outward_if a.rotated (mesh_of s) = mesh_is (outward_if a.rotated (mesh_of s)) t s u.turn_rotated.ensures in
     makes_as
-    (ap {B = Refusal} (placed_refusal a.degrees a.ops a.op_count) e)
-    (ap {B = Mesh} (placed a.degrees a.ops a.op_count) e)
+    (ap {B = Answer} (placed_refusal a.ops.now.degrees a.ops.now.ops a.ops.now.count) e)
+    (ap {B = Mesh} (placed a.ops.now.degrees a.ops.now.ops a.ops.now.count) e)
     p.place.ensures

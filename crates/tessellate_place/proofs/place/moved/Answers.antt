@@ -4,7 +4,7 @@ use mathlib.Core.Bool.{false≢true}
 use Rattle.refusal.specs.declared.Refusal.TheVariants.{PointNotFinite}
 use Rattle.mesh_spec.specs.Edits.{transform}
 use Rattle.mesh_check.specs.State.{state, mesh_of}
-use Rattle.mesh_made.proofs.Ending.{makes_as, makes_is, makes_refused, makes_accepted}
+use Rattle.mesh_made.proofs.Ending.{makes_as, makes_refused, makes_accepted}
 use Rattle.tessellate_place.proofs.Moving.{moved_refused, moved_accepted}
 use borrow.Author.Rules.{rules}
 use Rattle.tessellate_place.proofs.place.moved.Goals as goal
@@ -14,20 +14,16 @@ returns-then-not-stay_finite c =
     let f = c.stay_finite in
     let a = c.args in
     let s = state a.mesh a.vertices.now a.triangles.now in
-    makes_is c.refused.ensures
-    (makes_as (moved_refused a.a s f.result f.ensures c.if-not-stay_finite.true) refl
-    (makes_refused PointNotFinite (transform a.a (mesh_of s)) a.vertices.now a.triangles.now refl))
+    makes_as (moved_refused a.a s f.result f.ensures c.if-not-stay_finite.true) refl
+    (makes_refused PointNotFinite (transform a.a (mesh_of s)) a.vertices.now a.triangles.now refl)
 
 pub move_mesh-after-requires : goal.move_mesh-after-requires
 move_mesh-after-requires c = record { sound = search rules; finite = λ e. absurd (false≢true e) }
 
 pub returns : goal.returns
 returns c =
-    let m = c in
-    let e = m in
-    let f = e.stay_finite in
-    let a = e.args in
+    let f = c.stay_finite in
+    let a = c.args in
     let s = state a.mesh a.vertices.now a.triangles.now in
-    makes_is c.accepted.ensures
-    (makes_as (moved_accepted a.a s f.result f.ensures e.if-not-stay_finite.false) refl
-    (makes_accepted (transform a.a (mesh_of s)) s m.move_mesh-after.result _ _ m.move_mesh-after.ensures))
+    makes_as (moved_accepted a.a s f.result f.ensures c.if-not-stay_finite.false) refl
+    (makes_accepted (transform a.a (mesh_of s)) s c.move_mesh-after.result _ _ c.move_mesh-after.ensures)

@@ -1,37 +1,33 @@
 -- `weld_cell::column::weld_side` meets its contract: b, then c, then two triangles. Assumes nothing.
 use borrow.Author.Rules.{rules}
-use mathlib.Core.Path.{◌∙◌}
-use native.Mathlib.Omega.{arith}
+use Rattle.weld.specs.Welding.{same_then}
+use Rattle.weld_triangle.proofs.Triangle.{faces_after}
 use Rattle.weld_cell.proofs.Side.{side_runs}
 use Rattle.weld_cell.proofs.column.weld_side.Goals as goal
 
-pub add_triangle-u-requires : goal.add_triangle-u-requires
-add_triangle-u-requires c =
-    let s = c.requires in
-    let x = c.weld_point-pb.ensures in
-    let y = c.weld_point-pc.ensures in
-    (omega (arith, s.ready.faces, x.faces, y.faces), s.clean.2, x.small, y.small)
+pub weld_point-nb-requires : goal.weld_point-nb-requires
+weld_point-nb-requires c = (c.requires.ready.linked, c.requires.clean.0)
 
-pub add_triangle-v-requires : goal.add_triangle-v-requires
-add_triangle-v-requires c =
-    let s = c.requires.clean in
-    let x = c.weld_point-pb.ensures.small in
-    let y = c.weld_point-pc.ensures.small in
-    (c.add_triangle-u.ensures.faces, omega (arith, s.2, s.3, x, y), omega (arith, s.2, s.3, x, y), omega (arith, s.2, s.3, x, y))
+pub weld_point-nc-requires : goal.weld_point-nc-requires
+weld_point-nc-requires c = (c.weld_point-nb.ensures.runs.linked, c.requires.clean.1)
 
-pub shape_of-vertices : goal.shape_of-vertices
-shape_of-vertices c = c.weld_point-pc.auto.vertices ∙ c.weld_point-pb.auto.vertices
+pub add_triangle-requires : goal.add_triangle-requires
+add_triangle-requires c =
+    let x = c.weld_point-nb.ensures in
+    let y = c.weld_point-nc.ensures in
+    (faces_after y (faces_after x c.requires.ready.faces), c.requires.clean.2, x.runs.small, y.runs.small)
 
-pub shape_of-work : goal.shape_of-work
-shape_of-work c = c.weld_point-pc.auto.work ∙ c.weld_point-pb.auto.work
+pub add_triangle-requires-2 : goal.add_triangle-requires-2
+add_triangle-requires-2 c = (c.add_triangle.ensures.runs.faces, c.requires.clean.2, c.weld_point-nc.ensures.runs.small, c.requires.clean.3)
 
 pub returns : goal.returns
 returns c =
-    let s = c in
-    let x = c.weld_point-pb in
-    let y = c.weld_point-pc in
-    let u = c.add_triangle-u in
-    let v = c.add_triangle-v in
-    side_runs s.args.w s.args.vertices.now s.args.triangles.now s.args.work.now s.requires.ready s.args.b s.args.c s.args.na s.args.nd
-    x.result x.new.vertices x.new.work y.result _ _ u.result _ v.result _ x.ensures y.ensures u.ensures v.ensures
-    (y.auto.vertices ∙ x.auto.vertices) u.auto.triangles v.auto.triangles (y.auto.work ∙ x.auto.work) s.requires.clean.2 s.requires.clean.3
+    let s = c.requires in
+    let x = c.weld_point-nb.ensures in
+    let y = c.weld_point-nc.ensures in
+    let u = c.add_triangle.ensures in
+    let v = c.add_triangle-2.ensures in
+    record {
+      same = same_then x.slices.same (same_then y.slices.same (same_then u.same v.same));
+      runs = side_runs c.args.b c.args.c c.args.n.a c.args.n.d s.ready x y u v s.clean.2 s.clean.3;
+    }

@@ -1,36 +1,34 @@
 -- `weld_cell::column::weld_turned_side` meets its contract: c, a triangle, then b, and a triangle. Assumes nothing.
 use borrow.Author.Rules.{rules}
-use mathlib.Core.Path.{◌∙◌}
-use native.Mathlib.Omega.{arith}
-use Rattle.weld_triangle.proofs.Triangle.{linked_moved}
+use Rattle.weld.specs.Welding.{same_then}
+use Rattle.weld_triangle.proofs.Triangle.{linked_after, faces_after}
 use Rattle.weld_cell.proofs.Side.{turned_side_runs}
 use Rattle.weld_cell.proofs.column.weld_turned_side.Goals as goal
 
-pub weld_point-pb-requires : goal.weld_point-pb-requires
-weld_point-pb-requires c =
-    let x = c.weld_point-pc in
-    let u = c.add_triangle-u in
-    let r = u.ensures in
-    (linked_moved x.result.st u.result r.base r.count r.places r.ordered r.row x.ensures.linked, c.requires.clean.0)
+pub weld_point-nc-requires : goal.weld_point-nc-requires
+weld_point-nc-requires c = (c.requires.ready.linked, c.requires.clean.1)
 
-pub add_triangle-v-requires : goal.add_triangle-v-requires
-add_triangle-v-requires c =
-    let y = c.weld_point-pb.ensures in
-    (omega (arith, c.add_triangle-u.ensures.faces, y.faces), c.requires.clean.2, c.weld_point-pc.ensures.small, y.small)
+pub add_triangle-requires : goal.add_triangle-requires
+add_triangle-requires c =
+    let x = c.weld_point-nc.ensures in
+    (faces_after x c.requires.ready.faces, c.requires.clean.2, c.requires.clean.3, x.runs.small)
 
-pub shape_of-vertices : goal.shape_of-vertices
-shape_of-vertices c = c.weld_point-pb.auto.vertices ∙ c.weld_point-pc.auto.vertices
+pub weld_point-nb-requires : goal.weld_point-nb-requires
+weld_point-nb-requires c = (linked_after c.add_triangle.ensures c.weld_point-nc.ensures.runs.linked, c.requires.clean.0)
 
-pub shape_of-work : goal.shape_of-work
-shape_of-work c = c.weld_point-pb.auto.work ∙ c.weld_point-pc.auto.work
+pub add_triangle-requires-2 : goal.add_triangle-requires-2
+add_triangle-requires-2 c =
+    let y = c.weld_point-nb.ensures in
+    (faces_after y c.add_triangle.ensures.runs.faces, c.requires.clean.2, c.weld_point-nc.ensures.runs.small, y.runs.small)
 
 pub returns : goal.returns
 returns c =
-    let s = c in
-    let x = c.weld_point-pc in
-    let u = c.add_triangle-u in
-    let y = c.weld_point-pb in
-    let v = c.add_triangle-v in
-    turned_side_runs s.args.w s.args.vertices.now s.args.triangles.now s.args.work.now s.requires.ready s.args.b s.args.c s.args.na s.args.nd
-    x.result x.new.vertices x.new.work u.result _ y.result _ _ v.result _ x.ensures u.ensures y.ensures v.ensures
-    x.auto.vertices y.auto.vertices u.auto.triangles v.auto.triangles x.auto.work y.auto.work s.requires.clean.2 s.requires.clean.3
+    let s = c.requires in
+    let x = c.weld_point-nc.ensures in
+    let u = c.add_triangle.ensures in
+    let y = c.weld_point-nb.ensures in
+    let v = c.add_triangle-2.ensures in
+    record {
+      same = same_then x.slices.same (same_then u.same (same_then y.slices.same v.same));
+      runs = turned_side_runs c.args.b c.args.c c.args.n.a c.args.n.d s.ready x u y v s.clean.2 s.clean.3;
+    }

@@ -1,9 +1,0 @@
--- `replay::turns::run` is safe and ends: the count of turns falls. Assumes nothing.
-use native.Mathlib.Omega.{arith}
-use Rattle.replay.proofs.turns.run.Given as goal
-
-abbrev pub invariant-loop-turns : goal.invariant-loop-turns
-invariant-loop-turns l = Unit {0}
-
-abbrev pub decreases-loop-turns : goal.decreases-loop-turns
-decreases-loop-turns l = l.turns

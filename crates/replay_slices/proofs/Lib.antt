@@ -1,2 +1,0 @@
--- Laws that the proofs of `replay_slices` use.
-mod Swapping

@@ -1,0 +1,2 @@
+-- What the contracts of `solid_grid` cite.
+pub mod Sheet
