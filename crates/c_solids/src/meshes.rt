@@ -5,7 +5,7 @@ ghost use Rattle.mesh_edit_law.specs.Edits.{append_of, flip_of, transform_of};
 ghost use Rattle.c_solids.specs.Answers.{given, TellsBox, Leaves, at, turn_then_move};
 
 use crate::boxes::{box_in, put_box};
-use crate::told::{bits, box_or_zeros, tell};
+use crate::told::tell;
 use math::Vec3;
 use transform::{Operations, TransformOp};
 
@@ -21,7 +21,7 @@ pub extern "C" fn sizturga_bench_area(
     ensures { result ≡ (area_of (given vertex_count triangle_count bounds.now vertices.now triangles.now)).bits }
 {
     let m = mesh_check::record_of(vertex_count, triangle_count, box_in(bounds));
-    bits(mesh::area(m, vertices, triangles))
+    mesh::bits_or_zero(mesh::area(m, vertices, triangles))
 }
 
 // The bits of the signed volume.
@@ -36,7 +36,7 @@ pub extern "C" fn sizturga_bench_signed_volume(
     ensures { result ≡ (signed_volume_of (given vertex_count triangle_count bounds.now vertices.now triangles.now)).bits }
 {
     let m = mesh_check::record_of(vertex_count, triangle_count, box_in(bounds));
-    bits(mesh::signed_volume(m, vertices, triangles))
+    mesh::bits_or_zero(mesh::signed_volume(m, vertices, triangles))
 }
 
 // The box of the vertices, as six floats to out, zeros where the mesh is refused. The refusal is answered by its number.
@@ -54,7 +54,7 @@ pub extern "C" fn sizturga_bench_bounding_box(
 {
     let m = mesh_check::record_of(vertex_count, triangle_count, box_in(bounds));
     let boxed = mesh::bounding_box(m, vertices, triangles);
-    put_box(out, box_or_zeros(boxed));
+    put_box(out, mesh::box_or_zeros(boxed));
     refusal::number(boxed)
 }
 

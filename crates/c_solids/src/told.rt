@@ -3,11 +3,9 @@ ghost use Rattle.std.specs.Prelude.{◌≡◌};
 ghost use Rattle.refusal.specs.Answer.{answer_of};
 ghost use Rattle.refusal.specs.Number.{number_of};
 ghost use Rattle.mesh_check.specs.State.{record_of, record_after};
-ghost use Rattle.mesh_measures.specs.Measures.{bits_answered, box_answered};
 ghost use Rattle.c_solids.specs.Boxes.{box_in};
 
 use crate::boxes::put_box;
-use math::BoundingBox;
 use mesh_check::TriMesh;
 use refusal::Refusal;
 
@@ -27,18 +25,4 @@ pub(crate) fn tell(
     *triangle_count = after.triangles;
     put_box(bounds, after.bounds);
     refusal::number(made)
-}
-
-// The bits of a measure, 0 where it is refused.
-pub(crate) fn bits(measure: Result<u64, Refusal>) -> u64
-    ensures { result ≡ bits_answered measure }
-{
-    measure.unwrap_or(0)
-}
-
-// The box that is answered, the box of zeros where it is refused.
-pub(crate) fn box_or_zeros(boxed: Result<BoundingBox, Refusal>) -> BoundingBox
-    ensures { result ≡ box_answered boxed }
-{
-    boxed.unwrap_or(mesh_box::zero_box())
 }

@@ -22,14 +22,9 @@ fn is_closed(m: TriMesh, t: &[u32]) -> bool {
     mesh_closed::closed(m.vertices, &t[..3 * k])
 }
 
-// The record of what was drawn: the empty one where it was refused.
-fn record_of(made: Result<TriMesh, Refusal>) -> TriMesh {
-    made.unwrap_or(mesh_check::empty_record())
-}
-
 // The counts of a mesh and whether it is closed, after a title of n bytes that the line begins with.
 fn closed_or_open(line: &mut [u8], n: usize, made: Result<TriMesh, Refusal>, t: &[u32]) {
-    let m = record_of(made);
+    let m = mesh_made::record_made(made);
     let mut to = put_counts(line, n, refusal::number(made), m);
     to = put_border(line, to, is_closed(m, t));
     written::write(line, to);
@@ -61,7 +56,7 @@ fn box_to(stop: Vec3, begin: bool) {
     let mut t = [0u32; 36];
     let n = put_box(&mut line, 0, stop);
     let made = drawn::draw(shape, 32, 16, &mut v, &mut t);
-    let m = record_of(made);
+    let m = mesh_made::record_made(made);
     closed_or_open(&mut line, n, made, &t);
     measures(m, &v, &t);
     if begin {
@@ -150,7 +145,8 @@ fn quarters(segments: usize) {
     let mut v = [0.0; 270];
     let mut t = [0u32; 528];
     let mut n = put_cylinder(&mut line, 0, 1.0, segments);
-    let m = record_of(drawn::draw(upright(1.0), segments, 2, &mut v, &mut t));
+    let made = drawn::draw(upright(1.0), segments, 2, &mut v, &mut t);
+    let m = mesh_made::record_made(made);
     n = put_quarters(&mut line, n, &v, m.vertices);
     written::write(&line, n);
 }

@@ -13,12 +13,8 @@ fn clean(v: &[f64; 10]) {
 fn clip(v: &[f64]) {
     let mut line = [0u8; 160];
     let mut t = [0u32; 6];
-    // no triangles where it is refused
-    let (triangles, removed) = outline_clip::clip_outline(v, &mut t).map_or(
-        (0, 0),
-        |c| (c.triangles, c.removed),
-    );
-    let n = put_clipped(&mut line, 0, v, &t, triangles, removed);
+    let cut = outline_clip::cut_or_zeros(outline_clip::clip_outline(v, &mut t));
+    let n = put_clipped(&mut line, 0, v, &t, cut.triangles, cut.removed);
     written::write(&line, n);
 }
 

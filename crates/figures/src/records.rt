@@ -24,9 +24,8 @@ fn flipped(title: &[u8], m: TriMesh, v: &[f64], t: &mut [u32]) {
 pub(crate) fn all(m: TriMesh, v: &mut [f64], t: &mut [u32]) {
     bounds(b"  ", m);
     let operations = drawn::operations(TransformOp::Scale(-2.0), 1);
-    // the record of the mesh as it was where the scaling is refused
-    let scaled = mesh::transform(m, v, t, &operations).unwrap_or(m);
-    bounds(b"  scaled by -2: ", scaled);
+    let scaled = mesh::transform(m, v, t, &operations);
+    bounds(b"  scaled by -2: ", mesh::record_after(m, scaled));
     flipped(
         b"  scaled by -2, flipped with the box from before: ",
         m,

@@ -14,7 +14,7 @@ pub(crate) fn write(line: &[u8], n: usize) {
 
 // The counts of a mesh, or its refusal, after a title of n bytes that the line begins with; then the end of the line.
 pub(crate) fn counts(line: &mut [u8], n: usize, made: Result<TriMesh, Refusal>) {
-    let m = made.unwrap_or(mesh_check::empty_record());
+    let m = mesh_made::record_made(made);
     let mut to = put_counts(line, n, refusal::number(made), m);
     to = put(line, to, b"\n");
     write(line, to);

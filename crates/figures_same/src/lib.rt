@@ -9,18 +9,33 @@ ghost use Rattle.figures_same.specs.Vertices.{has_vertex};
 use math::Vec3;
 
 // Floats are compared as numbers: the two zeros are equal, and NaN equals nothing.
-#[tactic(auto, using(crate::proofs::Fronts::starts_floats))]
+// A loop and no starts_with, here and in `numbers`, for the edits that change one comparison of it.
 pub fn floats(v: &[f64], front: &[f64]) -> bool
     ensures { result ≡ begins eq v.now front.now }
 {
-    v.starts_with(front)
+    if v.len() < front.len() {
+        return false;
+    }
+    for i in 0..front.len() {
+        if v[i] != front[i] {
+            return false;
+        }
+    }
+    true
 }
 
-#[tactic(auto, using(crate::proofs::Fronts::starts_numbers))]
 pub fn numbers(t: &[u32], front: &[u32]) -> bool
     ensures { result ≡ begins eqb t.now front.now }
 {
-    t.starts_with(front)
+    if t.len() < front.len() {
+        return false;
+    }
+    for k in 0..front.len() {
+        if t[k] != front[k] {
+            return false;
+        }
+    }
+    true
 }
 
 // Whether one of the first count vertices of v, which has three floats a vertex, is p. A vertex that v lacks is no point.

@@ -1,5 +1,6 @@
-// Appending a mesh, and reversing one.
-ghost use Rattle.mesh_check.specs.State.{state};
+// Appending a mesh, reversing one, and the record after an edit.
+ghost use Rattle.std.specs.Prelude.{◌≡◌};
+ghost use Rattle.mesh_check.specs.State.{record_after, state};
 ghost use Rattle.mesh_edit_law.specs.Outcome.{GivesEdit};
 ghost use Rattle.mesh_edit_law.specs.Edits.{append_of, flip_of};
 
@@ -43,4 +44,11 @@ pub fn flip(mesh: TriMesh, vertices: &[f64], triangles: &mut [u32]) -> Result<Tr
     let bounds = mesh_check::check(mesh, vertices, triangles)?;
     mesh_write::turn_all(triangles, mesh.triangles);
     Ok(TriMesh { bounds, ..mesh })
+}
+
+// The record after an edit: the one that it answers, or where it is refused the one before.
+pub fn record_after(before: TriMesh, made: Result<TriMesh, Refusal>) -> TriMesh
+    ensures { result ≡ record_after before made }
+{
+    made.unwrap_or(before)
 }

@@ -5,7 +5,9 @@
 
 mod edit;
 
-pub use edit::{append, flip};
+pub use edit::{append, flip, record_after};
 pub use mesh_check::TriMesh;
-pub use mesh_measures::{area, bounding_box, enclosed_volume, signed_volume};
+pub use mesh_measures::{
+    area, bits_or_zero, bounding_box, box_or_zeros, enclosed_volume, signed_volume,
+};
 pub use mesh_transform::transform;

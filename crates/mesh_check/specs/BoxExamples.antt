@@ -43,7 +43,7 @@ unfolding check_of bad_mesh not_finite bad_box has_right_box counted_places ever
     same_point v_min v_max minimum maximum is_nan lt eq neg add of_int of_bits zero_box
 checked s = check_of s
 
--- the outcome of check, likewise
+-- the outcome of the measure `bounding_box`, likewise
 unfoldable answered : State → Boxed
 unfolding checked boxed_with
 answered s = boxed_with (check_of s) (bounding_box (mesh_of s))
@@ -117,7 +117,7 @@ no_vertices_zeros : checked (claims 0 first second zero_box) ≡ BadMesh
 unfolding checked
 no_vertices_zeros = refl
 
--- the outcome of a refused mesh has a box of zeros
+-- for a refused mesh the outcome has a box of zeros
 refused_zeros : answered (claims 1 first second (between first second)) ≡ record { refusal = BadMesh; bounds = zero_box }
 unfolding answered
 refused_zeros = refl

@@ -42,6 +42,13 @@ fn keep(mesh: TriMesh, vertices: &mut [f64], triangles: &mut [u32], work: &mut [
     slice::clear_from(work, 0, 0);
 }
 
+// The record of what a call made, the empty one where it was refused.
+pub fn record_made(made: Result<TriMesh, Refusal>) -> TriMesh
+    ensures { result ≡ record_made made }
+{
+    made.unwrap_or(mesh_check::empty_record())
+}
+
 // The end of the call: a refused one leaves zeros, an accepted one the mesh.
 pub fn end(
     made: Result<TriMesh, Refusal>,
@@ -53,7 +60,7 @@ pub fn end(
     ensures { Ends made vertices.old triangles.old work.old
         result vertices.new triangles.new work.new }
 {
-    let mesh = made.unwrap_or(mesh_check::empty_record());
+    let mesh = record_made(made);
     keep(mesh, vertices, triangles, work);
     made
 }

@@ -3,8 +3,10 @@
 // signed_volume, enclosed_volume and area have two lines after the check: one function over a closure would be longer than those six.
 #![tactic(auto)]
 
+ghost use Rattle.std.specs.Prelude.{◌≡◌};
 ghost use Rattle.mesh_check.specs.State.{state};
 ghost use Rattle.mesh_measures.specs.Measures.{GivesMeasure, GivesBox, signed_volume_of, area_of, enclosed_volume_of, bounding_box_of};
+ghost use Rattle.mesh_measures.specs.Measures.{bits_answered, box_answered};
 
 use math::BoundingBox;
 use mesh_check::TriMesh;
@@ -46,4 +48,18 @@ pub fn bounding_box(
     ensures { GivesBox (bounding_box_of (state mesh vertices.now triangles.now)) result }
 {
     mesh_check::check(mesh, vertices, triangles)
+}
+
+// The bits of a measure, 0 where it is refused.
+pub fn bits_or_zero(measure: Result<u64, Refusal>) -> u64
+    ensures { result ≡ bits_answered measure }
+{
+    measure.unwrap_or(0)
+}
+
+// The box that is answered, the box of zeros where it is refused.
+pub fn box_or_zeros(boxed: Result<BoundingBox, Refusal>) -> BoundingBox
+    ensures { result ≡ box_answered boxed }
+{
+    boxed.unwrap_or(mesh_box::zero_box())
 }

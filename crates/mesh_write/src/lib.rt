@@ -7,11 +7,14 @@ ghost use Rattle.mesh_balance_spec.specs.Soup.{flip_tri};
 ghost use Rattle.mesh_triples.specs.Triples.{each_to, triple_at, put_triple};
 
 // Writes the first count floats of from at place at.
+// A loop and no copy_from_slice: with that, a library for C would need memmove from the program that links it.
 pub fn copy(out: &mut [f64], at: usize, from: &[f64], count: usize)
     requires { (at + count ≤ length out.old) × (count ≤ length from.now) }
     ensures { out.new ≡ paste out.old at from.now count }
 {
-    out[at..at + count].copy_from_slice(&from[..count]);
+    for i in 0..count {
+        out[at + i] = from[i];
+    }
 }
 
 // Writes the first count numbers of from, each with n added, at place at.

@@ -5,7 +5,7 @@ use Rattle.std.specs.Float.Ieee.Scale.{finite}
 use Rattle.refusal.specs.Number.{number_of}
 use Rattle.refusal.specs.declared.Refusal.{Refusal}
 use Rattle.refusal.specs.declared.Refusal.TheVariants.{BadList, NotFinite, NoRoom}
-use Rattle.refusal.specs.Answer.{Accepted}
+use Rattle.refusal.specs.Answer.{Accepted, answer_of}
 use Rattle.slice.specs.Every.{every}
 use Rattle.outline_triangulate.specs.declared.Cut.{Cut}
 use Rattle.outline_triangulate.specs.Triangulate.{Clipping, triangulate_polygon}
@@ -38,7 +38,11 @@ clip_outline v m =
     (cond (ltb (m / 3) (length (triangulate_polygon v).triangles / 3)) (clip_refused NoRoom m)
     (clip_accepted (triangulate_polygon v) m)))
 
+-- the counts that are answered, 0 for a refusal
+abbrev pub cut_answered : Result Cut Refusal → Cut
+cut_answered (Ok cut) = cut
+cut_answered (Err refusal) = record { triangles = 0; removed = 0 }
+
 -- what the code answers, with the triangle slice as it leaves it
 abbrev pub outcome_of : Result Cut Refusal → List ℕ → ClipOutcome
-outcome_of (Ok c) a = record { refusal = number_of Accepted; triangles = c.triangles; removed = c.removed; slice = a }
-outcome_of (Err r) a = record { refusal = number_of (Some r); triangles = 0; removed = 0; slice = a }
+outcome_of r a = record { refusal = number_of (answer_of r); triangles = (cut_answered r).triangles; removed = (cut_answered r).removed; slice = a }

@@ -2,7 +2,7 @@
 #![tactic(auto)]
 
 ghost use Rattle.std.specs.Prelude.{◌≡◌, ◌++◌, ◌≤◌, length, take, drop};
-ghost use Rattle.outline_clip.specs.Clip.{clip_outline, outcome_of};
+ghost use Rattle.outline_clip.specs.Clip.{clip_outline, cut_answered, outcome_of};
 
 use outline_triangulate::Cut;
 use refusal::Refusal;
@@ -37,4 +37,14 @@ pub fn clip_outline(list: &[f64], triangles: &mut [u32]) -> Result<Cut, Refusal>
     }
     copy(triangles, &work, 3 * cut.triangles);
     Ok(cut)
+}
+
+// The counts of a clipping, 0 where it is refused.
+pub fn cut_or_zeros(clipped: Result<Cut, Refusal>) -> Cut
+    ensures { result ≡ cut_answered clipped }
+{
+    clipped.unwrap_or(Cut {
+        triangles: 0,
+        removed: 0,
+    })
 }

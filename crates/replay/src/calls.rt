@@ -21,11 +21,11 @@ pub(crate) fn clip(list: &[f64], triangles: &mut [u32]) -> bool
 {
     fill_words(triangles);
     let clipped = outline_clip::clip_outline(list, triangles);
-    let (given, removed) = clipped.map_or((0, 0), |cut| (cut.triangles, cut.removed));
+    let cut = outline_clip::cut_or_zeros(clipped);
     if !output::three_words(
         refusal::number(clipped),
-        output::count(given),
-        output::count(removed),
+        output::count(cut.triangles),
+        output::count(cut.removed),
     ) {
         return false;
     }
@@ -88,13 +88,12 @@ pub(crate) fn measure(m: TriMesh, vertices: &[f64], triangles: &[u32]) -> bool {
         refusal::number(area),
         refusal::number(boxed),
     );
-    let bounds = boxed.unwrap_or(mesh_box::zero_box());
     output::measured(
         why,
-        volume.unwrap_or(0),
-        enclosed.unwrap_or(0),
-        area.unwrap_or(0),
-        bounds,
+        mesh::bits_or_zero(volume),
+        mesh::bits_or_zero(enclosed),
+        mesh::bits_or_zero(area),
+        mesh::box_or_zeros(boxed),
     )
 }
 

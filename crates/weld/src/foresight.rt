@@ -5,21 +5,21 @@ ghost use Rattle.weld_hash.specs.Hash.{Distinct};
 ghost use Rattle.weld.specs.Rep.{InRows};
 ghost use Rattle.weld.specs.States.{Foresees};
 
-use crate::{Welder, Welding};
+use crate::Welder;
 use math::Vec3;
 use weld_order::Row;
 
 // What is seen of a point before a search: the row after it where it is new, or nothing, and then it has to be searched for. The first
 // point of a part is new, and so is one that continues the rows.
-pub fn foresee(w: &Welding<'_>, p: Vec3) -> Option<Row>
-    requires { Distinct w.now.vertices.now w.now.st.places w.now.st.base w.now.st.count × InRows w.now.st w.now.vertices.now × Clean p }
-    ensures { Foresees w.now.st w.now.vertices.now p result }
+pub fn foresee(vertices: &[f64], w: &Welder, p: Vec3) -> Option<Row>
+    requires { Distinct vertices.now w.now.places w.now.base w.now.count × InRows w.now vertices.now × Clean p }
+    ensures { Foresees w.now vertices.now p result }
 {
-    if w.st.base == w.st.count {
+    if w.base == w.count {
         return Some(weld_order::first_row(p));
     }
-    if w.st.ordered {
-        return from_last(w.vertices, &w.st, p);
+    if w.ordered {
+        return from_last(vertices, w, p);
     }
     None
 }

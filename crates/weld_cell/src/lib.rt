@@ -3,14 +3,15 @@
 #![tactic(auto)]
 
 ghost use Rattle.std.specs.Prelude.{◌≡◌, true, cond};
-ghost use Rattle.weld.specs.Rep.{Ready};
+ghost use Rattle.weld.specs.Rep.{Linked, Ready};
 ghost use Rattle.weld.specs.Welding.{held_by};
-ghost use Rattle.weld_quad.specs.Quads.{Known, WeldsQuad};
+ghost use Rattle.weld_quad.specs.Quads.{is_vertex, Known, WeldsQuad};
 ghost use Rattle.mesh_balance_spec.specs.Grid.{quad_turned};
 
 mod column;
 
 pub use column::weld_in_column;
+use math::Vec3;
 use weld::{Four, FourNumbers, Welding};
 
 // One cell: the quad p, or where flip says so with b and d exchanged. The numbers n are guesses at those of its points.
@@ -55,7 +56,7 @@ pub fn weld_in_row(
     requires known { known ≡ true → Known w.old.st w.old.vertices.now p.a n.a × Known w.old.st w.old.vertices.now p.b n.b }
     ensures { WeldsQuad (quad_turned flip p.a p.b p.c p.d) p w.old w.new result }
 {
-    if known && w.st.finite && w.st.room && weld_quad::is_vertex(w, n.d, p.d) && p.c.is_finite() {
+    if known && w.st.finite && w.st.room && is_vertex(w, n.d, p.d) && p.c.is_finite() {
         let second = pick(flip, n.d, n.b);
         let fourth = pick(flip, n.b, n.d);
         let c = weld_search::weld_point(w, weld::plus_zero(p.c), n.c);
@@ -69,6 +70,15 @@ pub fn weld_in_row(
         };
     }
     weld_cell(w, flip, p, n)
+}
+
+// Whether p equals vertex m, and this is one of this part. A function of its own, since `weld_quad::is_vertex` reads two fields of w, which
+// weld_in_row may write.
+fn is_vertex(w: &Welding<'_>, m: usize, p: Vec3) -> bool
+    requires { Linked w.now.st w.now.vertices.now w.now.work.now }
+    ensures { (result ≡ is_vertex w.now.st w.now.vertices.now p m) × (result ≡ true → Known w.now.st w.now.vertices.now p m) }
+{
+    weld_quad::is_vertex(w.vertices, &w.st, m, p)
 }
 
 // The number x where flip says so, or else y.

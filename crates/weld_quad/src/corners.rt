@@ -7,14 +7,14 @@ ghost use Rattle.weld.specs.Welding.{held_by};
 ghost use Rattle.weld_quad.specs.Quads.{is_vertex, Known, WeldsCorners, WeldsLast};
 
 use math::Vec3;
-use weld::{Four, FourNumbers, Welding};
+use weld::{Four, FourNumbers, Welder, Welding};
 
 // Whether p equals vertex m, and this is one of this part. If so p is finite, as all vertices are.
-pub fn is_vertex(w: &Welding<'_>, m: usize, p: Vec3) -> bool
-    requires { Distinct w.now.vertices.now w.now.st.places w.now.st.base w.now.st.count }
-    ensures { (result ≡ is_vertex w.now.st w.now.vertices.now p m) × (result ≡ true → Known w.now.st w.now.vertices.now p m) }
+pub fn is_vertex(vertices: &[f64], w: &Welder, m: usize, p: Vec3) -> bool
+    requires { Distinct vertices.now w.now.places w.now.base w.now.count }
+    ensures { (result ≡ is_vertex w.now vertices.now p m) × (result ≡ true → Known w.now vertices.now p m) }
 {
-    weld_vertex::is_at(w.vertices, w.st.base, w.st.count, m, p)
+    weld_vertex::is_at(vertices, w.base, w.count, m, p)
 }
 
 // Whether the guesses at the numbers of a, b and d are right.
@@ -23,7 +23,9 @@ pub fn are_at(w: &Welding<'_>, p: Four, n: FourNumbers) -> bool
     ensures { (result ≡ (is_vertex w.now.st w.now.vertices.now p.a n.a && is_vertex w.now.st w.now.vertices.now p.b n.b && is_vertex w.now.st w.now.vertices.now p.d n.d))
         × (result ≡ true → Known w.now.st w.now.vertices.now p.a n.a × Known w.now.st w.now.vertices.now p.b n.b × Known w.now.st w.now.vertices.now p.d n.d) }
 {
-    is_vertex(w, n.a, p.a) && is_vertex(w, n.b, p.b) && is_vertex(w, n.d, p.d)
+    is_vertex(w.vertices, &w.st, n.a, p.a)
+        && is_vertex(w.vertices, &w.st, n.b, p.b)
+        && is_vertex(w.vertices, &w.st, n.d, p.d)
 }
 
 // The two triangles of a quad of which a, b and d have the numbers of n: only c is tested for being finite, and looked up. The number of c in n

@@ -14,9 +14,9 @@ use Rattle.weld.specs.Welding.{SameSlices}
 abbrev pub with_vertex : Mesh → Vec3 → Mesh
 with_vertex S p = record { vertices = with_point S.vertices p; triangles = S.triangles }
 
--- where there is a b, it is the bucket of p
+-- where there is a b, it is the bucket of p, or stands for none where it is not below the places
 abbrev pub BucketOrNone : ℕ → Vec3 → Option ℕ → Type 0
-BucketOrNone places p (Some b) = (b ≡ bucket_of places p) × (0 < places → b < places)
+BucketOrNone places p (Some b) = b < places → b ≡ bucket_of places p
 BucketOrNone places p None = ⊤
 
 -- p was welded, and got the number n. Numbers in the slices count the vertices of the parts before, too.

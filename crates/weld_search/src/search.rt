@@ -9,7 +9,7 @@ ghost use Rattle.weld_search.specs.Search.{BucketOrNone, Settles, WeldsPoint};
 use math::Vec3;
 use weld::Welding;
 
-// Gives a point its number by a search. The caller may have worked out the bucket of p.
+// Gives a point its number by a search. The caller may have worked out the bucket of p: where `bucket` has a number below the places, that is it.
 pub fn search(w: &mut Welding<'_>, p: Vec3, bucket: Option<usize>) -> usize
     requires linked { Linked w.old.st w.old.vertices.now w.old.work.now × Clean p × BucketOrNone w.old.st.places p bucket }
     requires some { (w.old.st.room ≡ true) × (w.old.st.base < w.old.st.count) }
@@ -41,14 +41,14 @@ fn index(vertices: &mut [f64], work: &mut [u32], places: usize, base: usize, cou
     weld_hash::index(vertices, work, places, base, count);
 }
 
-// The bucket of p, which is worked out unless it is known.
+// The bucket of p, which is worked out unless it is known. A number that is not below the places is none.
 fn bucket_at(p: Vec3, places: usize, bucket: Option<usize>) -> usize
     requires { (0 < places) × (places < 2 ^ 32) × Clean p × BucketOrNone places p bucket }
     ensures { (result ≡ bucket_of places p) × (result < places) }
 {
     match bucket {
-        Some(b) => b,
-        None => weld_bucket::bucket_of(p, places),
+        Some(b) if b < places => b,
+        _ => weld_bucket::bucket_of(p, places),
     }
 }
 

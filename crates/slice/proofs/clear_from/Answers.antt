@@ -1,5 +1,5 @@
 -- `slice::clear_from` meets its contract. Assumes nothing.
-use Rattle.std.proofs.Common.{arith, refl}
+use Rattle.std.proofs.Common.{arith}
 use Rattle.std.proofs.Math.ListN.{length-set}
 use Rattle.slice.specs.ClearedLaws.{clearing_more, clearing_done}
 use Rattle.slice.proofs.clear_from.Goals as goal
@@ -9,7 +9,7 @@ loop-i-preserved g c =
     let l = c.loop-i in
     let a = c.args in
     let m = l.invariant.1 in (
-      refl,
+      omega arith,
       record {
         from = omega arith;
         within = omega arith;

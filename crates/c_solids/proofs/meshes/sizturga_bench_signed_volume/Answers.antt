@@ -5,4 +5,4 @@ use borrow.Author.Rules.{rules}
 use Rattle.c_solids.proofs.meshes.sizturga_bench_signed_volume.Goals as goal
 
 pub returns : goal.returns
-returns c = rw (← boxed_record c.record_of-m.ensures c.box_in.ensures) (c.bits.ensures ∙ c.signed_volume.ensures.bits)
+returns c = rw (← boxed_record c.record_of-m.ensures c.box_in.ensures) (c.bits_or_zero.ensures ∙ c.signed_volume.ensures.bits)

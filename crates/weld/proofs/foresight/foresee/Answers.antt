@@ -16,12 +16,12 @@ returns-then-w c =
     let w = s.args.w.now in
     let p = s.args.p in
     let r = c.first_row in
-    subst (λ (x : Row). Foresees w.st w.vertices.now p (Some x)) (sym r.ensures.0)
-    (first_seen w.st w.vertices.now p (omega arith) (subst (λ (x : Row). among x p p ≡ true) r.ensures.0 r.ensures.1))
+    subst (λ (x : Row). Foresees w s.args.vertices.now p (Some x)) (sym r.ensures.0)
+    (first_seen w s.args.vertices.now p (omega arith) (subst (λ (x : Row). among x p p ≡ true) r.ensures.0 r.ensures.1))
 
 pub returns : goal.returns
 returns c =
     let s = c in
     let w = s.args.w.now in
-    let l : w.st.base < w.st.count = omega (arith, s.requires.0.based, c.if-w.false) in
-    record { answer = answer_loose w.st w.vertices.now s.args.p l c.if-w-2.false; shows = l }
+    let l : w.base < w.count = omega (arith, s.requires.0.based, c.if-w.false) in
+    record { answer = answer_loose w s.args.vertices.now s.args.p l c.if-w-2.false; shows = l }

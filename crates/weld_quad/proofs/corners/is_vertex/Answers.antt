@@ -13,9 +13,10 @@ returns c = (
   λ e.
       let s = c in
       let w = s.args.w.now in
+      let vs = s.args.vertices.now in
       let p = s.args.p in
-      let k = s.well_formed.1.1.0.1.1 in
-      let q = at_yes w.vertices.now w.st.base w.st.count p s.args.m (sym c.is_at.ensures ∙ e) in
-      known_at w.st w.vertices.now p s.args.m s.requires (true_T (fits binary64 p.x) k.0.1) (true_T (fits binary64 p.y) k.1.0.1)
+      let k = s.well_formed.1.1.1.0.1.1 in
+      let q = at_yes vs w.base w.count p s.args.m (sym c.is_at.ensures ∙ e) in
+      known_at w vs p s.args.m s.requires (true_T (fits binary64 p.x) k.0.1) (true_T (fits binary64 p.y) k.1.0.1)
       (true_T (fits binary64 p.z) k.1.1.0.1) q.0 q.1 q.2,
 )

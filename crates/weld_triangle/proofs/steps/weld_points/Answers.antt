@@ -19,14 +19,14 @@ pub look_up-nb-requires : goal.look_up-nb-requires
 look_up-nb-requires c =
     let s = c in
     let u = c.look_up-na.ensures in
-    (u.runs.linked, s.requires.clean.1, rw (places_stay s.requires.ready.linked u.runs.linked u.slices.vlong) c.bucket_of-q.ensures)
+    (u.runs.linked, s.requires.clean.1, λ _. rw (places_stay s.requires.ready.linked u.runs.linked u.slices.vlong) c.bucket_of-q.ensures.0)
 
 pub look_up-nc-requires : goal.look_up-nc-requires
 look_up-nc-requires c =
     let s = c in
     let u = c.look_up-na.ensures in
     let v = c.look_up-nb.ensures in
-    (v.runs.linked, s.requires.clean.2, rw (places_stay s.requires.ready.linked v.runs.linked (v.slices.vlong ∙ u.slices.vlong)) c.bucket_of-r.ensures)
+    (v.runs.linked, s.requires.clean.2, λ _. rw (places_stay s.requires.ready.linked v.runs.linked (v.slices.vlong ∙ u.slices.vlong)) c.bucket_of-r.ensures.0)
 
 pub add_triangle-requires : goal.add_triangle-requires
 add_triangle-requires c =
